@@ -1,0 +1,4 @@
+pub mod Ranges
+pub mod Talk
+pub mod Reading
+pub mod Memory
