@@ -1,0 +1,10 @@
+pub mod FieldLaws
+pub mod FaultLaws
+pub mod KindLaws
+pub mod GrammarLaws
+pub mod KindFaultLaws
+pub mod FrontLaws
+pub mod StreamLaws
+pub mod ReadingLaws
+pub mod DecoderLaws
+pub mod PutLaws

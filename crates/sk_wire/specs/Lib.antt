@@ -1,0 +1,12 @@
+pub mod Reading
+pub mod Fields
+pub mod Kinds
+pub mod Grammar
+pub mod Faults
+pub mod Stream
+pub mod Parts
+pub mod Seen
+pub mod Fed
+pub mod Cutting
+pub mod Feeding
+pub mod Puts

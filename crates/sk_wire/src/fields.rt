@@ -1,0 +1,120 @@
+//! The types of fields, each read and written.
+
+ghost use Rattle.std.specs.Prelude.{◌≡◌};
+ghost use Rattle.sk_wire.specs.Reading.{Gives};
+ghost use Rattle.sk_wire.specs.Kinds as kinds;
+ghost use Rattle.sk_wire.specs.Puts.{Puts};
+
+use crate::fault::ReadError;
+use crate::numbers::{Cursor, bad_field, put_short_bytes, put_u8, put_u64};
+use sk_base::{Name, SimTime, Text, WantOfMemory};
+use sk_msg::{Role, is_step_size};
+use std::alloc::Global;
+
+impl<'a> Cursor<'a> {
+    #[tactic(auto, unfolding(crate::specs::Kinds::name))]
+    pub fn name(&mut self, alloc: Global) -> Result<Name, ReadError>
+        ensures { Gives (λ name. (name, self.new)) result (kinds.name.at self.old) }
+    {
+        let left = self.left();
+        let bytes = self.short_bytes()?;
+        Name::from_utf8(alloc, bytes)?.ok_or(bad_field(left))
+    }
+
+    #[tactic(auto, unfolding(crate::specs::Kinds::text))]
+    pub fn text(&mut self, alloc: Global) -> Result<Text, ReadError>
+        ensures { Gives (λ text. (text, self.new)) result (kinds.text.at self.old) }
+    {
+        let left = self.left();
+        let bytes = self.short_bytes()?;
+        Text::from_utf8(alloc, bytes)?.ok_or(bad_field(left))
+    }
+
+    #[tactic(auto, unfolding(crate::specs::Kinds::time))]
+    pub fn time(&mut self) -> Result<SimTime, ReadError>
+        ensures { Gives (λ time. (time, self.new)) result (kinds.time.at self.old) }
+    {
+        let left = self.left();
+        let ns = self.u64()?;
+        SimTime::new(ns).ok_or(bad_field(left))
+    }
+
+    #[tactic(auto, unfolding(crate::specs::Kinds::step_size))]
+    pub fn step_size(&mut self) -> Result<u64, ReadError>
+        ensures { Gives (λ ns. (ns, self.new)) result (kinds.step_size.at self.old) }
+    {
+        let left = self.left();
+        let ns = self.u64()?;
+        if is_step_size(ns) {
+            Ok(ns)
+        } else {
+            Err(bad_field(left))
+        }
+    }
+
+    #[tactic(auto, unfolding(crate::specs::Kinds::role))]
+    pub fn role(&mut self) -> Result<Role, ReadError>
+        ensures { Gives (λ role. (role, self.new)) result (kinds.role.at self.old) }
+    {
+        let left = self.left();
+        match self.u8()? {
+            0 => Ok(participant(false, false)),
+            1 => Ok(participant(true, false)),
+            2 => Ok(participant(false, true)),
+            3 => Ok(participant(true, true)),
+            4 => Ok(Role::Tool),
+            _ => Err(bad_field(left)),
+        }
+    }
+}
+
+fn participant(coordinated: bool, synchronised: bool) -> Role
+    ensures { result ≡ Role.Participant coordinated synchronised }
+{
+    Role::Participant {
+        coordinated,
+        synchronised,
+    }
+}
+
+#[tactic(auto, unfolding(crate::specs::Kinds::name))]
+pub fn put_name(to: &mut Vec<u8>, name: &Name) -> Result<(), WantOfMemory>
+    ensures { Puts result to.old.items to.new.items (kinds.name.spelling name.now) }
+{
+    put_short_bytes(to, name.as_str().as_bytes())
+}
+
+#[tactic(auto, unfolding(crate::specs::Kinds::text))]
+pub fn put_text(to: &mut Vec<u8>, text: &Text) -> Result<(), WantOfMemory>
+    ensures { Puts result to.old.items to.new.items (kinds.text.spelling text.now) }
+{
+    put_short_bytes(to, text.as_str().as_bytes())
+}
+
+#[tactic(auto, unfolding(crate::specs::Kinds::time))]
+pub fn put_time(to: &mut Vec<u8>, time: SimTime) -> Result<(), WantOfMemory>
+    ensures { Puts result to.old.items to.new.items (kinds.time.spelling time) }
+{
+    put_u64(to, time.ns())
+}
+
+#[tactic(auto, unfolding(crate::specs::Kinds::step_size))]
+pub fn put_step_size(to: &mut Vec<u8>, ns: u64) -> Result<(), WantOfMemory>
+    ensures { Puts result to.old.items to.new.items (kinds.step_size.spelling ns) }
+{
+    put_u64(to, ns)
+}
+
+#[tactic(auto, unfolding(crate::specs::Kinds::role))]
+pub fn put_role(to: &mut Vec<u8>, role: Role) -> Result<(), WantOfMemory>
+    ensures { Puts result to.old.items to.new.items (kinds.role.spelling role) }
+{
+    let bits = match role {
+        Role::Participant {
+            coordinated,
+            synchronised,
+        } => u8::from(coordinated) + 2 * u8::from(synchronised),
+        Role::Tool => 4,
+    };
+    put_u8(to, bits)
+}
