@@ -1,0 +1,104 @@
+-- More bytes taken only add to what is written.
+use Rattle.std.proofs.Common.{◌≡◌, ◌≤◌, ◌+◌, ◌*◌, ℕ, zero, suc, Bool, true, false, ◌||◌, ◌&&◌, cond, Option, Some, None, List, [], ◌∷◌, ◌++◌, refl, sym, ◌∙◌, ap, subst, arith, append_assoc, append-nil, ltb}
+use Rattle.std.proofs.lemmas.Bool.Decides.{nat_tests}
+use Rattle.std.proofs.lemmas.List.Folds.{list_any-append}
+use Rattle.std.specs.List.{list_any}
+use Rattle.sk_wire.specs.declared.fault.WireFault.{WireFault}
+use Rattle.sk_wire.specs.Parts.{messages, fault}
+use Rattle.sk_tools.specs.Frames.{all_steps, frames, due_after}
+use Rattle.sk_tools.specs.Run.{IsPrefixOf}
+use Rattle.sk_tools.specs.Pipe.{is_hello, is_free_hello, is_leave, announces, is_out_of_order, orderly, end_among, heard, may_begin, count_below, steps_begun, output, pipe_out}
+use Rattle.sk_msg.specs.declared.content.Content.{Content}
+use Rattle.sk_tools.specs.declared.peer.Over.{Over}
+use Rattle.sk_tools.proofs.CountLaws.{count_below-upto, times_below}
+use Rattle.sk_tools.proofs.PieceLaws.{next_parts, messages-piece, messages-faulty}
+use Rattle.sk_tools.proofs.HearingLaws.{orderly-append, goes_on}
+use Rattle.sk_tools.proofs.FrameLaws.{frames-prefix, output-frames}
+
+pub prefix_refl : (xs : List ℕ) → IsPrefixOf xs xs
+prefix_refl xs = ([], append-nil xs)
+
+pub prefix_trans : (xs ys zs : List ℕ) → IsPrefixOf xs ys → IsPrefixOf ys zs → IsPrefixOf xs zs
+prefix_trans xs ys zs p q = (p.0 ++ q.0, sym (append_assoc xs p.0 q.0) ∙ ap (λ l. l ++ q.0) p.1 ∙ q.1)
+
+-- the messages that count only grow
+orderly-front : (before ms : List Content) → (more : List Content) × (before ++ more ≡ orderly before ms)
+orderly-front before [] = ([], append-nil before)
+orderly-front before (m ∷ ms) = by_case (is_out_of_order before m) (is_leave m) (orderly-front (before ++ m ∷ []) ms)
+  where
+    by_case : (b l : Bool) → ((more : List Content) × ((before ++ m ∷ []) ++ more ≡ orderly (before ++ m ∷ []) ms))
+        → (more : List Content) × (before ++ more ≡ cond b before (cond l (before ++ m ∷ []) (orderly (before ++ m ∷ []) ms)))
+    by_case true l q = ([], append-nil before)
+    by_case false true q = (m ∷ [], refl)
+    by_case false false q = (m ∷ q.0, sym (append_assoc before (m ∷ []) q.0) ∙ q.1)
+
+goes_on-front : (o : Option Over) (before ms : List Content) → (more : List Content) × (before ++ more ≡ goes_on o before ms)
+goes_on-front None before ms = orderly-front before ms
+goes_on-front (Some over) before ms = ([], append-nil before)
+
+pub heard-front : (b c : List ℕ) → (more : List Content) × (heard b ++ more ≡ heard (b ++ c))
+heard-front b c = by_case (fault b) refl
+  where
+    by_case : (f : Option WireFault) → fault b ≡ f → (more : List Content) × (heard b ++ more ≡ heard (b ++ c))
+    by_case (Some f) h = ([], append-nil _ ∙ ap (orderly []) (sym (messages-faulty b c f h)))
+    by_case None h =
+        let more = (next_parts b c).messages in
+        let front = goes_on-front (end_among [] (messages b)) (heard b) more in
+        (front.0, front.1 ∙ sym (orderly-append [] (messages b) more) ∙ ap (orderly []) (sym (messages-piece b c h)))
+
+-- what may begin may begin later too
+may_begin-more : (ms rest : List Content) (t : ℕ) → may_begin ms t ≡ true → may_begin (ms ++ rest) t ≡ true
+may_begin-more ms rest t h =
+    rw (list_any-append is_hello ms rest, list_any-append is_free_hello ms rest, list_any-append is_leave ms rest, list_any-append (announces t) ms rest)
+    (more (list_any is_hello ms) (list_any is_free_hello ms) (list_any is_leave ms) (list_any (announces t) ms) _ _ _ _ h)
+  where
+    more : (a b c d x y z w : Bool) → (a && (b || c || d)) ≡ true → ((a || x) && ((b || y) || (c || z) || (d || w))) ≡ true
+    more a b c d x y z w h = grind arith
+
+count_below-le : (p q : ℕ → Bool) (n : ℕ) → ((i : ℕ) → p i ≡ true → q i ≡ true) → count_below p n ≤ count_below q n
+count_below-le p q zero h = omega arith
+count_below-le p q (suc n) h = let before = count_below-le p q n h in by_case (p n) (q n) (h n) before
+  where
+    by_case : (a b : Bool) → (a ≡ true → b ≡ true) → count_below p n ≤ count_below q n → count_below p n + cond a 1 0 ≤ count_below q n + cond b 1 0
+    by_case true true h k = omega arith
+    by_case true false h k = absurd (let e = h refl in cc)
+    by_case false true h k = omega arith
+    by_case false false h k = omega arith
+
+pub steps_begun-more : (step duration : ℕ) (ms rest : List Content) → steps_begun step duration ms ≤ steps_begun step duration (ms ++ rest)
+steps_begun-more step duration ms rest =
+    count_below-le (λ i. ltb (i * step) duration && may_begin ms (i * step)) (λ i. ltb (i * step) duration && may_begin (ms ++ rest) (i * step)) duration
+    (λ i h. both (ltb (i * step) duration) (may_begin ms (i * step)) (may_begin (ms ++ rest) (i * step)) (may_begin-more ms rest (i * step)) h)
+  where
+    both : (a b c : Bool) → (b ≡ true → c ≡ true) → (a && b) ≡ true → (a && c) ≡ true
+    both a b c k h = grind arith
+
+pub steps_begun-le : (step duration : ℕ) (ms : List Content) → 1 ≤ step → steps_begun step duration ms ≤ all_steps step duration
+steps_begun-le step duration ms positive =
+    let all : count_below (λ i. ltb (i * step) duration) duration ≡ _ = count_below-upto (λ i. ltb (i * step) duration) (all_steps step duration) duration (λ i _. times_below step duration i positive) in
+    let below : steps_begun step duration ms ≤ count_below (λ i. ltb (i * step) duration) duration
+    = count_below-le _ (λ i. ltb (i * step) duration) duration (λ i h. left (ltb (i * step) duration) (may_begin ms (i * step)) h) in
+    omega (arith, all, below)
+  where
+    left : (a b : Bool) → (a && b) ≡ true → a ≡ true
+    left a b h = grind arith
+
+-- what is written is the messages that are due
+pub output-due : (name : List ℕ) (step duration n : ℕ) → 1 ≤ step → n ≤ all_steps step duration
+    → output name step duration n ≡ frames name step (all_steps step duration) (due_after n (all_steps step duration))
+output-due name step duration n positive small = output-frames name step duration (all_steps step duration) n small (times_below step duration n positive)
+
+pub due-le : (n m total : ℕ) → n ≤ m → m ≤ total → due_after n total ≤ due_after m total
+due-le n m total h k = grind (arith, nat_tests)
+
+-- more bytes taken make more of it
+pub pipe_out-monotone : (name : List ℕ) (step duration : ℕ) (b c : List ℕ) → 1 ≤ step → IsPrefixOf (pipe_out name step duration b) (pipe_out name step duration (b ++ c))
+pipe_out-monotone name step duration b c positive =
+    let total = all_steps step duration in
+    let front = heard-front b c in
+    let n = steps_begun step duration (heard b) in
+    let m = steps_begun step duration (heard (b ++ c)) in
+    let grows : n ≤ m = subst (λ (l : List Content). n ≤ steps_begun step duration l) front.1 (steps_begun-more step duration (heard b) front.0) in
+    let small : m ≤ total = steps_begun-le step duration (heard (b ++ c)) positive in
+    rw (output-due name step duration n positive (omega (arith, grows, small)), output-due name step duration m positive small)
+    (frames-prefix name step total (due_after n total) (due_after m total) (due-le n m total grows small))

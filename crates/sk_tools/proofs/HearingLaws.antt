@@ -1,0 +1,267 @@
+-- One more message, and one more piece.
+use Rattle.std.proofs.Common.{◌≡◌, ◌≤◌, ◌<◌, ◌+◌, ◌/◌, ℕ, Bool, true, false, ◌||◌, cond, Option, Some, None, List, [], ◌∷◌, ◌++◌, refl, sym, ◌∙◌, ap, subst, arith, min, leb}
+use Rattle.std.specs.Prelude.{not}
+use Rattle.std.proofs.lemmas.Bool.Decides.{nat_tests}
+use Rattle.std.proofs.lemmas.List.Folds.{list_any-append}
+use Rattle.std.specs.List.{list_any}
+use Rattle.std.specs.Option.{is_some}
+use Rattle.sk_msg.specs.Rules.{is_step_size}
+use Rattle.sk_msg.specs.declared.role.Role.{Role}
+use Rattle.sk_msg.specs.declared.content.Content.{Content}
+use Rattle.sk_msg.specs.declared.content.Content.TheVariants.{Hello, Leave, NextStep}
+use Rattle.sk_wire.specs.declared.fault.WireFault.{WireFault}
+use Rattle.sk_wire.specs.Stream.{Parts}
+use Rattle.sk_wire.specs.Parts.{messages, fault}
+use Rattle.sk_tools.specs.Roles.{is_synchronised}
+use Rattle.sk_tools.specs.Frames.{all_steps}
+use Rattle.sk_tools.specs.Pipe.{is_hello, is_free_hello, is_leave, announces, is_out_of_order, orderly, end_among, or_fault, heard, end_of, may_begin, steps_begun}
+use Rattle.sk_tools.specs.Hearing.{IsPresent, Announced, Stands, Hears, IsHeardAs, HearsPiece, KeepsPlan}
+use Rattle.sk_tools.specs.declared.peer.Over.{Over}
+use Rattle.sk_tools.specs.declared.peer.Over.TheVariants.{Left, Broken}
+use Rattle.sk_tools.specs.declared.peer.Standing.TheVariants.{Bound}
+use Rattle.sk_tools.specs.declared.peer.Peer.{Peer}
+use Rattle.sk_tools.proofs.CountLaws.{steps_begun-none, steps_begun-all, steps_begun-upto}
+use Rattle.sk_tools.proofs.PieceLaws.{next_parts, messages-piece, fault-piece}
+
+-- ## One message, in order or not
+
+module _ (before : List Content) (m : Content) where
+  orderly-bad : is_out_of_order before m ≡ true → orderly before (m ∷ []) ≡ before
+  orderly-bad bad = rw bad
+
+  end-bad : is_out_of_order before m ≡ true → end_among before (m ∷ []) ≡ Some Broken
+  end-bad bad = rw bad
+
+  orderly-good : is_out_of_order before m ≡ false → orderly before (m ∷ []) ≡ before ++ m ∷ []
+  orderly-good good = rw good (either (is_leave m))
+    where
+      either : (b : Bool) → cond b (before ++ m ∷ []) (before ++ m ∷ []) ≡ before ++ m ∷ []
+      either true = refl
+      either false = refl
+
+  end-good : is_out_of_order before m ≡ false → is_leave m ≡ false → end_among before (m ∷ []) ≡ None
+  end-good good stays = rw (good, stays)
+
+  end-leave : is_out_of_order before m ≡ false → is_leave m ≡ true → end_among before (m ∷ []) ≡ Some Left
+  end-leave good leaves = rw (good, leaves)
+
+  pub heard_bad : (peer : Peer) → is_out_of_order before m ≡ true → peer.over ≡ Some Broken → peer.begun ≡ steps_begun peer.step peer.duration before
+      → IsHeardAs before (m ∷ []) peer
+  heard_bad peer bad over begun = record {
+    over_is = over ∙ sym (end-bad bad);
+    begun_is = begun ∙ ap (steps_begun peer.step peer.duration) (sym (orderly-bad bad));
+    stands = λ none. absurd (let both : Some Broken ≡ None = sym (end-bad bad) ∙ none in cc);
+  }
+
+  -- one in order that isn't Leave
+  pub heard_good : (peer : Peer) → is_out_of_order before m ≡ false → is_leave m ≡ false → peer.over ≡ None
+      → peer.begun ≡ steps_begun peer.step peer.duration (before ++ m ∷ []) → Stands (before ++ m ∷ []) peer.standing → IsHeardAs before (m ∷ []) peer
+  heard_good peer good stays over begun stands = record {
+    over_is = over ∙ sym (end-good good stays);
+    begun_is = begun ∙ ap (steps_begun peer.step peer.duration) (sym (orderly-good good));
+    stands = λ _. subst (λ (l : List Content). Stands l peer.standing) (sym (orderly-good good)) stands;
+  }
+
+  pub heard_leave : (peer : Peer) → is_out_of_order before m ≡ false → is_leave m ≡ true → peer.over ≡ Some Left
+      → peer.begun ≡ steps_begun peer.step peer.duration (before ++ m ∷ []) → IsHeardAs before (m ∷ []) peer
+  heard_leave peer good leaves over begun = record {
+    over_is = over ∙ sym (end-leave good leaves);
+    begun_is = begun ∙ ap (steps_begun peer.step peer.duration) (sym (orderly-good good));
+    stands = λ none. absurd (let both : Some Left ≡ None = sym (end-leave good leaves) ∙ none in cc);
+  }
+
+-- ## How many steps may begin
+
+module _ (step duration : ℕ) (positive : 1 ≤ step) where
+  pub begun-nothing : steps_begun step duration [] ≡ 0
+  begun-nothing = steps_begun-none step duration [] positive (λ _. refl)
+
+  -- an unsynchronised peer lets all begin
+  pub begun-free : (ms : List Content) → IsPresent ms true → steps_begun step duration ms ≡ all_steps step duration
+  begun-free ms p = steps_begun-all step duration ms positive (λ t. rw (p.hello, p.is_free) refl)
+
+  -- a synchronised peer lets those begin that it announced
+  pub begun-bound : (ms : List Content) → IsPresent ms false → Announced ms None → steps_begun step duration ms ≡ 0
+  begun-bound ms p none = steps_begun-none step duration ms positive (λ t. rw (p.hello, p.is_free, p.stays) (none t))
+
+  pub begun-by : (ms : List Content) (last : ℕ) → IsPresent ms false → Announced ms (Some last) → steps_begun step duration ms ≡ min (all_steps step duration) (last / step + 1)
+  begun-by ms last p by = steps_begun-upto step duration ms positive last (λ t. rw (p.hello, p.is_free, p.stays) (by t))
+
+  pub begun-left : (before : List Content) → list_any is_hello before ≡ true → steps_begun step duration (before ++ Leave ∷ []) ≡ all_steps step duration
+  begun-left before hello = steps_begun-all step duration (before ++ Leave ∷ []) positive
+      (λ t. rw (list_any-append, list_any-append, list_any-append, list_any-append, hello) (at_leave (list_any is_free_hello before) (list_any is_leave before) (list_any (announces t) before)))
+    where
+      at_leave : (x y z : Bool) → ((x || false) || (y || true) || (z || false)) ≡ true
+      at_leave x y z = grind arith
+
+-- ## After each kind of message
+
+or_false : (b : Bool) → (b || false) ≡ b
+or_false true = refl
+or_false false = refl
+
+pub present-hello : (name : List ℕ) (role : Role) (address : List ℕ) → IsPresent (Hello name role address ∷ []) (not (is_synchronised role))
+present-hello name role address = record { hello = refl; is_free = or_false (not (is_synchronised role)); stays = refl }
+
+present-next : (before : List Content) (at duration : ℕ) (free : Bool) → IsPresent before free → IsPresent (before ++ NextStep at duration ∷ []) free
+present-next before at duration free p = record {
+  hello = list_any-append is_hello before (NextStep at duration ∷ []) ∙ ap (λ b. b || false) p.hello;
+  is_free = list_any-append is_free_hello before (NextStep at duration ∷ []) ∙ ap (λ b. b || false) p.is_free ∙ or_false free;
+  stays = list_any-append is_leave before (NextStep at duration ∷ []) ∙ ap (λ b. b || false) p.stays;
+}
+
+announced-first : (before : List Content) (at duration : ℕ) → Announced before None → Announced (before ++ NextStep at duration ∷ []) (Some at)
+announced-first before at duration none t =
+    list_any-append (announces t) before (NextStep at duration ∷ []) ∙ ap (λ b. b || (leb t at || false)) (none t) ∙ or_false (leb t at)
+
+announced-next : (before : List Content) (last at duration : ℕ) → last < at → Announced before (Some last) → Announced (before ++ NextStep at duration ∷ []) (Some at)
+announced-next before last at duration rises by t =
+    list_any-append (announces t) before (NextStep at duration ∷ []) ∙ ap (λ b. b || (leb t at || false)) (by t) ∙ later
+  where
+    later : (leb t last || (leb t at || false)) ≡ leb t at
+    later = grind (arith, nat_tests, rises)
+
+-- which announcements of a synchronised peer are out of order
+first-good : (before : List Content) (at duration : ℕ) → IsPresent before false → Announced before None → is_out_of_order before (NextStep at duration) ≡ false
+first-good before at duration p none = rw (p.hello, p.is_free, none at) refl
+
+next-good : (before : List Content) (last at duration : ℕ) → last < at → IsPresent before false → Announced before (Some last) → is_out_of_order before (NextStep at duration) ≡ false
+next-good before last at duration rises p by = rw (p.hello, p.is_free, by at) (grind (arith, nat_tests))
+
+pub next-bad : (before : List Content) (last at duration : ℕ) → at ≤ last → IsPresent before false → Announced before (Some last) → is_out_of_order before (NextStep at duration) ≡ true
+next-bad before last at duration falls p by = rw (p.hello, p.is_free, by at) (grind (arith, nat_tests))
+
+pub free-bad : (before : List Content) (at duration : ℕ) → IsPresent before true → is_out_of_order before (NextStep at duration) ≡ true
+free-bad before at duration p = rw (p.hello, p.is_free) refl
+
+pub hello-bad : (before : List Content) (name : List ℕ) (role : Role) (address : List ℕ) (free : Bool) → IsPresent before free → is_out_of_order before (Hello name role address) ≡ true
+hello-bad before name role address free p = p.hello
+
+pub leave-good : (before : List Content) (free : Bool) → IsPresent before free → is_out_of_order before Leave ≡ false
+leave-good before free p = rw p.hello refl
+
+-- an announcement in order
+hears_announced : (old new : Peer) (before : List Content) (at duration : ℕ) → 1 ≤ old.step → is_out_of_order before (NextStep at duration) ≡ false
+    → IsPresent before false → Announced (before ++ NextStep at duration ∷ []) (Some at) → old.over ≡ None
+    → KeepsPlan old new → new.standing ≡ Bound (Some at) → new.over ≡ old.over → new.begun ≡ min old.total (at / old.step + 1) → IsHeardAs before (NextStep at duration ∷ []) new
+hears_announced old new before at duration positive good p by open_still plan standing over begun =
+    let now = before ++ NextStep at duration ∷ [] in
+    let present = present-next before at duration false p in
+    let counted : new.begun ≡ steps_begun new.step new.duration now =
+    rw (plan.step, plan.duration) (begun ∙ ap (λ n. min n (at / old.step + 1)) old.counted ∙ sym (begun-by old.step old.duration positive now at present by)) in
+    heard_good before (NextStep at duration) new good refl (over ∙ open_still) counted (subst (Stands now) (sym standing) (present, by))
+
+pub hears_first : (old new : Peer) (before : List Content) (at duration : ℕ) → 1 ≤ old.step → Stands before (Bound None) → old.over ≡ None
+    → KeepsPlan old new → new.standing ≡ Bound (Some at) → new.over ≡ old.over → new.begun ≡ min old.total (at / old.step + 1) → IsHeardAs before (NextStep at duration ∷ []) new
+hears_first old new before at duration positive s =
+    hears_announced old new before at duration positive (first-good before at duration s.0 s.1) s.0 (announced-first before at duration s.1)
+
+pub hears_next : (old new : Peer) (before : List Content) (last at duration : ℕ) → 1 ≤ old.step → last < at → Stands before (Bound (Some last)) → old.over ≡ None
+    → KeepsPlan old new → new.standing ≡ Bound (Some at) → new.over ≡ old.over → new.begun ≡ min old.total (at / old.step + 1) → IsHeardAs before (NextStep at duration ∷ []) new
+hears_next old new before last at duration positive rises s =
+    hears_announced old new before at duration positive (next-good before last at duration rises s.0 s.1) s.0 (announced-next before last at duration rises s.1)
+
+-- ## More messages behind those before
+
+abbrev pub goes_on : Option Over → List Content → List Content → List Content
+goes_on None before ms = orderly before ms
+goes_on (Some over) before ms = before
+
+abbrev pub ends_on : Option Over → List Content → List Content → Option Over
+ends_on None before ms = end_among before ms
+ends_on (Some over) before ms = Some over
+
+pub orderly-append : (before xs ys : List Content) → orderly before (xs ++ ys) ≡ goes_on (end_among before xs) (orderly before xs) ys
+orderly-append before [] ys = refl
+orderly-append before (m ∷ xs) ys = by_case (is_out_of_order before m) (is_leave m) (orderly-append (before ++ m ∷ []) xs ys)
+  where
+    by_case : (b l : Bool) → orderly (before ++ m ∷ []) (xs ++ ys) ≡ goes_on (end_among (before ++ m ∷ []) xs) (orderly (before ++ m ∷ []) xs) ys
+        → cond b before (cond l (before ++ m ∷ []) (orderly (before ++ m ∷ []) (xs ++ ys)))
+        ≡ goes_on (cond b (Some Broken) (cond l (Some Left) (end_among (before ++ m ∷ []) xs)))
+        (cond b before (cond l (before ++ m ∷ []) (orderly (before ++ m ∷ []) xs))) ys
+    by_case true l q = refl
+    by_case false true q = refl
+    by_case false false q = q
+
+pub end_among-append : (before xs ys : List Content) → end_among before (xs ++ ys) ≡ ends_on (end_among before xs) (orderly before xs) ys
+end_among-append before [] ys = refl
+end_among-append before (m ∷ xs) ys = by_case (is_out_of_order before m) (is_leave m) (end_among-append (before ++ m ∷ []) xs ys)
+  where
+    by_case : (b l : Bool) → end_among (before ++ m ∷ []) (xs ++ ys) ≡ ends_on (end_among (before ++ m ∷ []) xs) (orderly (before ++ m ∷ []) xs) ys
+        → cond b (Some Broken) (cond l (Some Left) (end_among (before ++ m ∷ []) (xs ++ ys)))
+        ≡ ends_on (cond b (Some Broken) (cond l (Some Left) (end_among (before ++ m ∷ []) xs)))
+        (cond b before (cond l (before ++ m ∷ []) (orderly (before ++ m ∷ []) xs))) ys
+    by_case true l q = refl
+    by_case false true q = refl
+    by_case false false q = q
+
+-- the Peer heard xs, and then ys
+heard_more : (before xs ys : List Content) (peer : Peer) → end_among before xs ≡ None → IsHeardAs (orderly before xs) ys peer → IsHeardAs before (xs ++ ys) peer
+heard_more before xs ys peer none h =
+    let front : orderly before (xs ++ ys) ≡ orderly (orderly before xs) ys = orderly-append before xs ys ∙ ap (λ o. goes_on o (orderly before xs) ys) none in
+    let over : end_among before (xs ++ ys) ≡ end_among (orderly before xs) ys = end_among-append before xs ys ∙ ap (λ o. ends_on o (orderly before xs) ys) none in
+    rw (front, over) h
+
+-- the Peer heard xs, which ended it
+heard_all : (before xs ys : List Content) (peer : Peer) (end : Over) → end_among before xs ≡ Some end → IsHeardAs before xs peer → IsHeardAs before (xs ++ ys) peer
+heard_all before xs ys peer end some h =
+    let front : orderly before (xs ++ ys) ≡ orderly before xs = orderly-append before xs ys ∙ ap (λ o. goes_on o (orderly before xs) ys) some in
+    let over : end_among before (xs ++ ys) ≡ end_among before xs = end_among-append before xs ys ∙ ap (λ o. ends_on o (orderly before xs) ys) some ∙ sym some in
+    rw (front, over) h
+
+-- what a call of `note` says
+abbrev pub NotesTo : Peer → Content → Peer → Type 0
+NotesTo old m new = (before : List Content) → Hears before None old → IsHeardAs before (m ∷ []) new
+
+-- one more message in a loop
+pub heard_step : (before xs : List Content) (m : Content) (old new : Peer) → old.over ≡ None → IsHeardAs before xs old → NotesTo old m new → IsHeardAs before (xs ++ m ∷ []) new
+heard_step before xs m old new open_still h notes =
+    let none : end_among before xs ≡ None = sym h.over_is ∙ open_still in
+    heard_more before xs (m ∷ []) new none (notes (orderly before xs) (subst (λ (o : Option Over). Hears (orderly before xs) o old) none h))
+
+-- the message that ended it is the last that counts
+pub heard_last : (before xs ys : List Content) (peer : Peer) (end : Over) → peer.over ≡ Some end → IsHeardAs before xs peer → IsHeardAs before (xs ++ ys) peer
+heard_last before xs ys peer end some h = heard_all before xs ys peer end (sym h.over_is ∙ some) h
+
+pub not_some : (o : Option Over) → false ≡ is_some o → o ≡ None
+not_some None h = refl
+not_some (Some x) h = cc
+
+pub some_of : (o : Option Over) → true ≡ is_some o → (x : Over) × (o ≡ Some x)
+some_of None h = cc
+some_of (Some x) h = (x, refl)
+
+-- ## One more piece
+
+or_fault-none : (o : Option Over) (bad : Bool) → or_fault o bad ≡ None → (o ≡ None) × (bad ≡ false)
+or_fault-none None true h = cc
+or_fault-none None false h = (refl, refl)
+or_fault-none (Some over) bad h = cc
+
+pub or_fault-false : (o : Option Over) → or_fault o false ≡ o
+or_fault-false None = refl
+or_fault-false (Some over) = refl
+
+no_fault : (f : Option WireFault) → is_some f ≡ false → f ≡ None
+no_fault None h = refl
+no_fault (Some f) h = cc
+
+-- with nothing over, the stream had no fault and its messages no end
+pub open_stream : (b : List ℕ) → end_of b ≡ None → (end_among [] (messages b) ≡ None) × (fault b ≡ None)
+open_stream b h = let both = or_fault-none (end_among [] (messages b)) (is_some (fault b)) h in (both.0, no_fault (fault b) both.1)
+
+pub hears_piece : (b piece : List ℕ) (p : Parts) (old new : Peer) → Hears (heard b) (end_of b) old → old.over ≡ None → next_parts b piece ≡ p
+    → ((before : List Content) → Hears before None old → HearsPiece before p.messages (is_some p.fault) new)
+    → Hears (heard (b ++ piece)) (end_of (b ++ piece)) new
+hears_piece b piece p old new h open_still e says =
+    let none : end_of b ≡ None = sym h.over_is ∙ open_still in
+    let stream = open_stream b none in
+    let all : messages (b ++ piece) ≡ messages b ++ p.messages = messages-piece b piece stream.1 ∙ ap (λ (q : Parts). messages b ++ q.messages) e in
+    let bad : fault (b ++ piece) ≡ p.fault = fault-piece b piece stream.1 ∙ ap (λ (q : Parts). q.fault) e in
+    let front : heard (b ++ piece) ≡ orderly (heard b) p.messages
+    = ap (orderly []) all ∙ orderly-append [] (messages b) p.messages ∙ ap (λ o. goes_on o (heard b) p.messages) stream.0 in
+    let over : end_of (b ++ piece) ≡ or_fault (end_among (heard b) p.messages) (is_some p.fault)
+    = ap (λ ms. or_fault (end_among [] ms) (is_some (fault (b ++ piece)))) all
+    ∙ ap (λ o. or_fault o (is_some (fault (b ++ piece)))) (end_among-append [] (messages b) p.messages ∙ ap (λ o. ends_on o (heard b) p.messages) stream.0)
+    ∙ ap (λ f. or_fault (end_among (heard b) p.messages) (is_some f)) bad in
+    rw (front, over) (says (heard b) (subst (λ (o : Option Over). Hears (heard b) o old) none h))

@@ -1,0 +1,9 @@
+pub mod CountLaws
+pub mod FrameLaws
+pub mod PieceLaws
+pub mod HearingLaws
+pub mod GrowthLaws
+pub mod TalkLaws
+pub mod SessionLaws
+pub mod TopLaws
+pub mod Examples

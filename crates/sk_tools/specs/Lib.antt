@@ -1,0 +1,11 @@
+pub mod Words
+pub mod Plans
+pub mod Roles
+pub mod Pipe
+pub mod Run
+pub mod Top
+pub mod Laws
+pub mod Examples
+pub mod Hearing
+pub mod Frames
+pub mod Session

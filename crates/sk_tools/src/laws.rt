@@ -1,0 +1,27 @@
+//! Laws of what `pipe` writes: functions that do nothing, whose contracts are the laws.
+
+ghost use Rattle.std.specs.Prelude.{◌≡◌, [], ◌∷◌};
+ghost use Rattle.sk_tools.specs.Pipe.{pipe_out};
+ghost use Rattle.sk_tools.specs.Laws.{MoreIsMore, IsNoRun, early_talk, late_talk, one_earlier_talk, longer_talk};
+ghost use Rattle.sk_tools.specs.Examples as examples;
+
+/// More bytes taken only add to what is written.
+pub fn grows()
+    ensures { MoreIsMore }
+{}
+
+/// Talks that break the protocol are those of no run, whatever a body does.
+pub fn refuses()
+    ensures early { IsNoRun early_talk }
+    ensures late { IsNoRun late_talk }
+    ensures one_earlier { IsNoRun one_earlier_talk }
+    ensures longer { IsNoRun longer_talk }
+{}
+
+/// What participant A writes by the definition, on inputs worked by hand: 104, 76, 54 and 38 bytes.
+pub fn works()
+    ensures ahead { pipe_out (65 ∷ []) 1000000 3000000 examples.taken_ahead ≡ examples.given_ahead }
+    ensures ended { pipe_out (65 ∷ []) 1000000 3000000 examples.taken_ended ≡ examples.given_ended }
+    ensures below { pipe_out (65 ∷ []) 1000000 3000000 examples.taken_below ≡ examples.given_below }
+    ensures at_once { pipe_out (65 ∷ []) 1 0 [] ≡ examples.given_at_once }
+{}

@@ -1,0 +1,19 @@
+//! The commands of the program, each as one call over the words and the outside that it is handed.
+//!
+//! [`silkit_pipe`] is the bare step protocol with one peer on a link. Its contract says, at every
+//! place of the link's talk, what was given for the bytes taken so far, and for each status the
+//! cause that forces it; nothing else needs to be believed of the program. A run looks at each
+//! byte of its input a constant number of times, and keeps no more than one message of it.
+#![tactic(auto)]
+
+pub mod laws;
+pub mod peer;
+pub mod pipe;
+pub mod plan;
+pub mod session;
+pub mod status;
+#[cfg(test)]
+mod tests;
+pub mod words;
+
+pub use pipe::silkit_pipe;
