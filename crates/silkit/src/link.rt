@@ -1,41 +1,32 @@
 //! Standard input and output as one link.
 
-ghost use Rattle.std.specs.Prelude.{◌≡◌};
-ghost use Rattle.sk_base.specs.Talk.{Rose};
-
+use crate::count::{RETRIES, one_more};
+use log::{Log, warn};
 use sk_base::{Failed, Gave, Link, Took};
 use std::io::{ErrorKind, Read, Stdin, Stdout, Write};
 
 /// Takes from standard input and gives to standard output. It never answers NotYet, and tells
-/// nothing of what was said.
+/// nothing of what was said. Each fault is noted in the log.
 #[derive(Drop)]
-pub struct StdLink {
+pub struct StdLink<L: Log + Drop> {
     input: Stdin,
     output: Stdout,
+    log: L,
     faults: u64,
 }
 
-impl StdLink {
-    pub fn new(input: Stdin, output: Stdout) -> StdLink {
+impl<L: Log + Drop> StdLink<L> {
+    pub fn new(input: Stdin, output: Stdout, log: L) -> StdLink<L> {
         StdLink {
             input,
             output,
+            log,
             faults: 0,
         }
     }
 }
 
-/// A count of faults after one more. At the end of a u64 it stands still.
-fn one_more(faults: u64) -> u64
-    ensures { Rose faults result }
-{
-    faults.saturating_add(1)
-}
-
-/// How often a call that a signal interrupted is made again.
-const RETRIES: u32 = 1000;
-
-impl Link for StdLink {
+impl<L: Log + Drop> Link for StdLink<L> {
     ghost faults = { λ link. link.faults };
 
     fn take(&mut self, buf: &mut [u8]) -> Result<Took, Failed> {
@@ -45,6 +36,7 @@ impl Link for StdLink {
                 Ok(count) => return Ok(Took::Bytes(count)),
                 Err(error) => {
                     if error.kind() != ErrorKind::Interrupted {
+                        warn!(self.log; "standard input: {error}");
                         break;
                     }
                 }
@@ -61,6 +53,7 @@ impl Link for StdLink {
                 Ok(count) => return Ok(Gave::Bytes(count)),
                 Err(error) => {
                     if error.kind() != ErrorKind::Interrupted {
+                        warn!(self.log; "standard output: {error}");
                         break;
                     }
                 }

@@ -1,11 +1,22 @@
-//! The program `silkit`: the outside, handed to the commands.
+//! The program `silkit`: the outside, handed to the one call that does all the rest.
+//!
+//! The adapters here are the trusted edge. They note each fault of the real thing by `log`, which the
+//! shipped program has switched off.
 #![tactic(auto)]
 
+mod count;
+mod files;
+mod idle;
 mod link;
+mod sink;
 
+use files::OsFiles;
+use idle::NoRest;
 use link::StdLink;
-use sk_base::memory::MemFiles;
-use sk_tools::silkit_pipe;
+use log::sink::Discard;
+use sink::StdSink;
+use sk_base::memory::MemNet;
+use sk_tools::{Host, silkit};
 use std::alloc::AllocError;
 use std::env;
 use std::io::ErrorKind;
@@ -33,8 +44,13 @@ fn main(rt: HostRuntime) -> ExitCode {
     let Ok(words) = words else {
         return ExitCode::from(MEMORY);
     };
-    let mut link = StdLink::new(rt.stdin(), rt.stdout());
-    // No command reads a file yet.
-    let mut files = MemFiles::new(Vec::new(rt.alloc()), Vec::new(rt.alloc()));
-    ExitCode::from(silkit_pipe(rt.alloc(), &words, &mut link, &mut files))
+    let mut host = Host {
+        files: OsFiles::new(&rt, Discard),
+        out: StdSink::new(rt.stdout(), Discard),
+        err: StdSink::new(rt.stderr(), Discard),
+        link: StdLink::new(rt.stdin(), rt.stdout(), Discard),
+        net: MemNet::without_links(rt.alloc()),
+        idle: NoRest,
+    };
+    ExitCode::from(silkit(rt.alloc(), &words, &mut host))
 }

@@ -8,6 +8,10 @@ use Rattle.sk_base.specs.declared.fault.NameFault.TheVariants.{Empty, TooLong, C
 unfoldable pub is_time : ℕ → Bool
 is_time ns = nat_le ns (2 ^ 62)
 
+-- at most 4,096 bytes
+unfoldable pub is_payload : List ℕ → Bool
+is_payload bytes = nat_le (length bytes) 4096
+
 -- U+0000 to U+001F and U+007F, each of which is one byte of UTF-8
 abbrev pub is_control : ℕ → Bool
 is_control byte = nat_lt byte 32 || byte == 127

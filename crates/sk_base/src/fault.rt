@@ -1,6 +1,7 @@
 //! Why a call or a value is refused.
 
 ghost use Rattle.std.specs.Prelude.{◌≡◌};
+ghost use Rattle.sk_base.specs.declared.fault.BytesFault.TheVariants as bytes_faults;
 ghost use Rattle.sk_base.specs.declared.fault.NameFault.TheVariants as faults;
 
 use std::alloc::{AllocError, AllocFailed};
@@ -51,5 +52,22 @@ impl From<AllocError> for NameFault {
 
     fn from(_error: AllocError) -> NameFault {
         NameFault::WantOfMemory
+    }
+}
+
+/// Why bytes are no [`Bytes`](crate::Bytes).
+#[derive(Clone, Copy, Debug, PartialEq, Eq)]
+pub enum BytesFault {
+    /// Over 4,096; with how many there are.
+    TooLong(usize),
+    /// They are few enough, and there was no memory to keep them.
+    WantOfMemory,
+}
+
+impl From<AllocError> for BytesFault {
+    ghost from_gives = { λ _ fault. fault ≡ bytes_faults.WantOfMemory };
+
+    fn from(_error: AllocError) -> BytesFault {
+        BytesFault::WantOfMemory
     }
 }

@@ -11,3 +11,9 @@ pub const LONGEST_RUN_NS: u64 = 1 << 61;
 
 /// The longest name or text, in bytes: its length takes one byte of a frame.
 pub const LONGEST_TEXT: usize = 64;
+
+/// The most bytes that a message carries.
+pub const LONGEST_PAYLOAD: usize = 4096;
+
+/// The longest file that is read, in bytes.
+pub const LONGEST_FILE: usize = 1 << 24;

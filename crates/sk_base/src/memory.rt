@@ -6,7 +6,11 @@
 pub mod fails;
 pub mod files;
 pub mod link;
+pub mod net;
+pub mod sink;
 
 pub use fails::{CallKind, FailAt};
 pub use files::{MemFile, MemFiles};
 pub use link::{MemGive, MemLink, MemTake};
+pub use net::MemNet;
+pub use sink::MemSink;

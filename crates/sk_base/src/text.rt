@@ -1,6 +1,6 @@
 //! Names and texts: short pieces of UTF-8 that fit a line and a frame.
 
-ghost use Rattle.std.specs.Prelude.{◌≡◌, ℕ, List, length, ◌≤◌, position, ◌⊎◌, Some, None, false, IsTrue, IfOk, IfErr, IfNone, IfSome, ◌≢◌, if◌then◌else◌};
+ghost use Rattle.std.specs.Prelude.{◌≡◌, ℕ, List, length, ◌≤◌, position, ◌⊎◌, Some, None, false, IsTrue, IfOk, IfErr, OnErr, IfNone, IfSome, ◌≢◌, if◌then◌else◌};
 ghost use Rattle.std.specs.String.{string_bytes};
 ghost use Rattle.sk_base.specs.declared.fault.NameFault.{NameFault};
 ghost use Rattle.sk_base.specs.Ranges.{is_control, is_text, is_name, text_fault, name_fault};
@@ -61,7 +61,8 @@ impl Text {
     /// The text that these bytes are, or None where they are none.
     #[tactic(auto, using(crate::proofs::TextLaws::from_bytes))]
     pub fn from_utf8(alloc: Global, bytes: &[u8]) -> Result<Option<Text>, WantOfMemory>
-        ensures { IfOk result (λ text. text ≡ (if is_text bytes.now then Some bytes.now else None)) }
+        ensures reads { IfOk result (λ text. text ≡ (if is_text bytes.now then Some bytes.now else None)) }
+        ensures memory { OnErr result (IsTrue (is_text bytes.now)) }
     {
         let Ok(text) = str::from_utf8(bytes) else {
             return Ok(None);
@@ -113,7 +114,8 @@ impl Name {
     /// The name that these bytes are, or None where they are none.
     #[tactic(auto, unfolding(crate::specs::Ranges::is_name))]
     pub fn from_utf8(alloc: Global, bytes: &[u8]) -> Result<Option<Name>, WantOfMemory>
-        ensures { IfOk result (λ name. name ≡ (if is_name bytes.now then Some bytes.now else None)) }
+        ensures reads { IfOk result (λ name. name ≡ (if is_name bytes.now then Some bytes.now else None)) }
+        ensures memory { OnErr result (IsTrue (is_name bytes.now)) }
     {
         if bytes.is_empty() {
             return Ok(None);

@@ -1,0 +1,4 @@
+pub mod StateLaws
+pub mod EdgeLaws
+pub mod LabelLaws
+pub mod MessageLaws

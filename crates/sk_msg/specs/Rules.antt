@@ -1,19 +1,124 @@
 -- Which contents are messages: the rules on their fields, one case for each kind.
-use Rattle.std.specs.Prelude.{ℕ, ◌^◌, Bool, true, ◌&&◌, nat_le}
-use Rattle.sk_base.specs.Ranges.{is_name, is_text, is_time}
+use Rattle.std.specs.Prelude.{ℕ, ◌^◌, Bool, true, false, not, ◌&&◌, ◌||◌, List, [], ◌∷◌, length, nat_lt, nat_le, ◌==◌, IsTrue, if◌then◌else◌}
+use Rattle.std.specs.List.{list_any}
+use Rattle.std.specs.Str.{bytes_eq}
+use Rattle.sk_base.specs.Ranges.{is_name, is_text, is_time, is_payload}
+use Rattle.sk_msg.specs.Each.{any, each_after}
+use Rattle.sk_msg.specs.Specs.{is_new_key, is_label_count}
 use Rattle.sk_msg.specs.declared.content.Content.{Content}
-use Rattle.sk_msg.specs.declared.content.Content.TheVariants.{Hello, Leave, NextStep}
-
--- each value of a field's type
-abbrev pub any : {A : Type 0} → A → Bool
-any x = true
+use Rattle.sk_msg.specs.declared.content.Content.TheVariants.{Hello, Leave, NextStep, ServiceAdd, ServicesEnd, Status, Workflow, Abort, Can, Eth, Lin, LinResponse, Publish, Call, Reply, Refuse}
+use Rattle.sk_msg.specs.declared.label.Label.{Label}
+use Rattle.sk_msg.specs.declared.bus.LinChecksum.{LinChecksum}
+use Rattle.sk_msg.specs.declared.bus.LinChecksum.TheVariants as checksums
+use Rattle.sk_msg.specs.declared.bus.LinStatus.{LinStatus}
+use Rattle.sk_msg.specs.declared.bus.LinStatus.TheVariants as statuses
+use Rattle.sk_msg.specs.declared.bus.LinMode.{LinMode}
+use Rattle.sk_msg.specs.declared.bus.LinMode.TheVariants as modes
+use Rattle.sk_msg.specs.declared.state.State.{State}
+use Rattle.sk_msg.specs.States.{state_number}
 
 -- 1 to 2^60 nanoseconds
 unfoldable pub is_step_size : ℕ → Bool
 is_step_size ns = nat_le 1 ns && nat_le ns (2 ^ 60)
+
+-- any number of 32 bits
+unfoldable pub is_u32 : ℕ → Bool
+is_u32 n = nat_lt n (2 ^ 32)
+
+-- at most 2^63
+unfoldable pub is_mark : ℕ → Bool
+is_mark mark = nat_le mark (2 ^ 63)
+
+-- 1 to 2^63
+unfoldable pub is_call : ℕ → Bool
+is_call call = nat_le 1 call && nat_le call (2 ^ 63)
+
+unfoldable pub is_service_id : ℕ → Bool
+is_service_id id = nat_le id 63
+
+-- a label whose key is new
+abbrev pub is_new_label : List Label → Label → Bool
+is_new_label before label = (is_name label.key && is_new_key before label.key) && (is_text label.value && any label.kind)
+
+-- a label whose key is a name and whose value is a text
+abbrev pub IsNamed : Label → Type 0
+IsNamed label = IsTrue (is_name label.key) × IsTrue (is_text label.value)
+
+-- a state that a participant tells: not Invalid
+unfoldable pub is_told : State → Bool
+is_told state = not (state_number state == 0)
+
+unfoldable pub is_required_count : ℕ → Bool
+is_required_count n = nat_le 1 n && nat_le n 32
+
+-- a name that doesn't stand among these
+unfoldable pub is_new_name : List (List ℕ) → List ℕ → Bool
+is_new_name names name = not (list_any (λ other. bytes_eq other name) names)
+
+abbrev pub is_next_name : List (List ℕ) → List ℕ → Bool
+is_next_name before name = is_name name && is_new_name before name
+
+-- 11 bits of identifier, or 29 where it is extended; 0 to 8 bytes, and of CAN FD some longer lengths
+unfoldable pub is_can_frame : ℕ → Bool → Bool → List ℕ → Bool
+is_can_frame id extended fd bytes =
+    nat_lt id (if extended then 2 ^ 29 else 2 ^ 11)
+    && (nat_le (length bytes) 8 || (fd && list_any (λ n. n == length bytes) (12 ∷ 16 ∷ 20 ∷ 24 ∷ 32 ∷ 48 ∷ 64 ∷ [])))
+
+unfoldable pub is_eth_frame : List ℕ → Bool
+is_eth_frame bytes = nat_le 60 (length bytes) && nat_le (length bytes) 1518
+
+unfoldable pub is_lin_id : ℕ → Bool
+is_lin_id id = nat_le id 63
+
+abbrev pub is_unknown : LinChecksum → Bool
+is_unknown checksums.Unknown = true
+is_unknown checksums.Classic = false
+is_unknown checksums.Enhanced = false
+
+-- with this status there is data
+abbrev pub is_received : LinStatus → Bool
+is_received statuses.RxOk = true
+is_received statuses.RxError = false
+is_received statuses.RxNoResponse = false
+is_received statuses.Wakeup = false
+
+-- with this mode there is data
+abbrev pub is_sent : LinMode → Bool
+is_sent modes.Unused = false
+is_sent modes.Rx = false
+is_sent modes.TxUnconditional = true
+
+-- at most 8 bytes; without data neither bytes nor a checksum
+unfoldable pub is_lin_data : Bool → LinChecksum → List ℕ → Bool
+is_lin_data carries checksum bytes = nat_le (length bytes) 8 && (carries || (is_unknown checksum && length bytes == 0))
 
 -- in the order of the fields, so that a rule stands where the wire judges it
 unfoldable pub is_message : Content → Bool
 is_message (Hello name role address) = is_name name && (any role && is_text address)
 is_message Leave = true
 is_message (NextStep at duration) = is_time at && is_step_size duration
+is_message (ServiceAdd s) =
+    not s.history
+    && (is_service_id s.id && (any s.kind && (is_name s.name && (is_name s.spec.topic && (is_text s.spec.media
+    && (is_label_count (length s.spec.labels) && each_after is_new_label [] s.spec.labels))))))
+is_message ServicesEnd = true
+is_message (Status state until) = (any state && is_told state) && is_time until
+is_message (Workflow required) = is_required_count (length required) && each_after is_next_name [] required
+is_message Abort = true
+is_message (Can service stamp mark f) =
+    is_u32 service && (is_time stamp && (is_mark mark
+    && (is_u32 f.id && (any f.extended && (is_payload f.«data» && is_can_frame f.id f.extended f.fd f.«data»)))))
+is_message (Eth service stamp mark bytes) =
+    is_u32 service && (is_time stamp && (is_mark mark && (is_payload bytes && is_eth_frame bytes)))
+is_message (Lin service stamp mark f) =
+    is_u32 service && (is_time stamp && (is_mark mark
+    && (is_lin_id f.id && (any f.checksum && (any f.status && (is_payload f.«data» && is_lin_data (is_received f.status) f.checksum f.«data»))))))
+is_message (LinResponse service stamp mark r) =
+    is_u32 service && (is_time stamp && (is_mark mark
+    && (is_lin_id r.id && (any r.mode && (any r.checksum && (is_payload r.«data» && is_lin_data (is_sent r.mode) r.checksum r.«data»))))))
+is_message (Publish service stamp mark bytes) = is_u32 service && (is_time stamp && (is_mark mark && is_payload bytes))
+is_message (Call service stamp mark call bytes) =
+    is_u32 service && (is_time stamp && (is_mark mark && (is_call call && is_payload bytes)))
+is_message (Reply service stamp mark client call bytes) =
+    is_u32 service && (is_time stamp && (is_mark mark && (is_u32 client && (is_call call && is_payload bytes))))
+is_message (Refuse reason) = any reason

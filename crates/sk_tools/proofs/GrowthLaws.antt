@@ -7,7 +7,7 @@ use Rattle.sk_wire.specs.declared.fault.WireFault.{WireFault}
 use Rattle.sk_wire.specs.Parts.{messages, fault}
 use Rattle.sk_tools.specs.Frames.{all_steps, frames, due_after}
 use Rattle.sk_tools.specs.Run.{IsPrefixOf}
-use Rattle.sk_tools.specs.Pipe.{is_hello, is_free_hello, is_leave, announces, is_out_of_order, orderly, end_among, heard, may_begin, count_below, steps_begun, output, pipe_out}
+use Rattle.sk_tools.specs.Pipe.{is_passed_over, is_hello, is_free_hello, is_leave, announces, is_out_of_order, orderly, end_among, heard, may_begin, count_below, steps_begun, output, pipe_out}
 use Rattle.sk_msg.specs.declared.content.Content.{Content}
 use Rattle.sk_tools.specs.declared.peer.Over.{Over}
 use Rattle.sk_tools.proofs.CountLaws.{count_below-upto, times_below}
@@ -24,13 +24,15 @@ prefix_trans xs ys zs p q = (p.0 ++ q.0, sym (append_assoc xs p.0 q.0) ∙ ap (�
 -- the messages that count only grow
 orderly-front : (before ms : List Content) → (more : List Content) × (before ++ more ≡ orderly before ms)
 orderly-front before [] = ([], append-nil before)
-orderly-front before (m ∷ ms) = by_case (is_out_of_order before m) (is_leave m) (orderly-front (before ++ m ∷ []) ms)
+orderly-front before (m ∷ ms) = by_case (is_passed_over m) (is_out_of_order before m) (is_leave m) (orderly-front before ms) (orderly-front (before ++ m ∷ []) ms)
   where
-    by_case : (b l : Bool) → ((more : List Content) × ((before ++ m ∷ []) ++ more ≡ orderly (before ++ m ∷ []) ms))
-        → (more : List Content) × (before ++ more ≡ cond b before (cond l (before ++ m ∷ []) (orderly (before ++ m ∷ []) ms)))
-    by_case true l q = ([], append-nil before)
-    by_case false true q = (m ∷ [], refl)
-    by_case false false q = (m ∷ q.0, sym (append_assoc before (m ∷ []) q.0) ∙ q.1)
+    by_case : (o b l : Bool) → ((more : List Content) × (before ++ more ≡ orderly before ms))
+        → ((more : List Content) × ((before ++ m ∷ []) ++ more ≡ orderly (before ++ m ∷ []) ms))
+        → (more : List Content) × (before ++ more ≡ cond o (orderly before ms) (cond b before (cond l (before ++ m ∷ []) (orderly (before ++ m ∷ []) ms))))
+    by_case true b l p q = p
+    by_case false true l p q = ([], append-nil before)
+    by_case false false true p q = (m ∷ [], refl)
+    by_case false false false p q = (m ∷ q.0, sym (append_assoc before (m ∷ []) q.0) ∙ q.1)
 
 goes_on-front : (o : Option Over) (before ms : List Content) → (more : List Content) × (before ++ more ≡ goes_on o before ms)
 goes_on-front None before ms = orderly-front before ms

@@ -14,7 +14,7 @@ use Rattle.sk_wire.specs.Stream.{Parts}
 use Rattle.sk_wire.specs.Parts.{messages, fault}
 use Rattle.sk_tools.specs.Roles.{is_synchronised}
 use Rattle.sk_tools.specs.Frames.{all_steps}
-use Rattle.sk_tools.specs.Pipe.{is_hello, is_free_hello, is_leave, announces, is_out_of_order, orderly, end_among, or_fault, heard, end_of, may_begin, steps_begun}
+use Rattle.sk_tools.specs.Pipe.{is_passed_over, is_hello, is_free_hello, is_leave, announces, is_out_of_order, orderly, end_among, or_fault, heard, end_of, may_begin, steps_begun}
 use Rattle.sk_tools.specs.Hearing.{IsPresent, Announced, Stands, Hears, IsHeardAs, HearsPiece, KeepsPlan}
 use Rattle.sk_tools.specs.declared.peer.Over.{Over}
 use Rattle.sk_tools.specs.declared.peer.Over.TheVariants.{Left, Broken}
@@ -25,25 +25,29 @@ use Rattle.sk_tools.proofs.PieceLaws.{next_parts, messages-piece, fault-piece}
 
 -- ## One message, in order or not
 
-module _ (before : List Content) (m : Content) where
+-- one that is passed over
+pub heard_other : (before : List Content) (m : Content) (peer : Peer) → is_passed_over m ≡ true → Hears before None peer → IsHeardAs before (m ∷ []) peer
+heard_other before m peer other h = rw other h
+
+module _ (before : List Content) (m : Content) (counts : is_passed_over m ≡ false) where
   orderly-bad : is_out_of_order before m ≡ true → orderly before (m ∷ []) ≡ before
-  orderly-bad bad = rw bad
+  orderly-bad bad = rw (counts, bad)
 
   end-bad : is_out_of_order before m ≡ true → end_among before (m ∷ []) ≡ Some Broken
-  end-bad bad = rw bad
+  end-bad bad = rw (counts, bad)
 
   orderly-good : is_out_of_order before m ≡ false → orderly before (m ∷ []) ≡ before ++ m ∷ []
-  orderly-good good = rw good (either (is_leave m))
+  orderly-good good = rw (counts, good) (either (is_leave m))
     where
       either : (b : Bool) → cond b (before ++ m ∷ []) (before ++ m ∷ []) ≡ before ++ m ∷ []
       either true = refl
       either false = refl
 
   end-good : is_out_of_order before m ≡ false → is_leave m ≡ false → end_among before (m ∷ []) ≡ None
-  end-good good stays = rw (good, stays)
+  end-good good stays = rw (counts, good, stays)
 
   end-leave : is_out_of_order before m ≡ false → is_leave m ≡ true → end_among before (m ∷ []) ≡ Some Left
-  end-leave good leaves = rw (good, leaves)
+  end-leave good leaves = rw (counts, good, leaves)
 
   pub heard_bad : (peer : Peer) → is_out_of_order before m ≡ true → peer.over ≡ Some Broken → peer.begun ≡ steps_begun peer.step peer.duration before
       → IsHeardAs before (m ∷ []) peer
@@ -149,7 +153,7 @@ hears_announced old new before at duration positive good p by open_still plan st
     let present = present-next before at duration false p in
     let counted : new.begun ≡ steps_begun new.step new.duration now =
     rw (plan.step, plan.duration) (begun ∙ ap (λ n. min n (at / old.step + 1)) old.counted ∙ sym (begun-by old.step old.duration positive now at present by)) in
-    heard_good before (NextStep at duration) new good refl (over ∙ open_still) counted (subst (Stands now) (sym standing) (present, by))
+    heard_good before (NextStep at duration) refl new good refl (over ∙ open_still) counted (subst (Stands now) (sym standing) (present, by))
 
 pub hears_first : (old new : Peer) (before : List Content) (at duration : ℕ) → 1 ≤ old.step → Stands before (Bound None) → old.over ≡ None
     → KeepsPlan old new → new.standing ≡ Bound (Some at) → new.over ≡ old.over → new.begun ≡ min old.total (at / old.step + 1) → IsHeardAs before (NextStep at duration ∷ []) new
@@ -173,27 +177,31 @@ ends_on (Some over) before ms = Some over
 
 pub orderly-append : (before xs ys : List Content) → orderly before (xs ++ ys) ≡ goes_on (end_among before xs) (orderly before xs) ys
 orderly-append before [] ys = refl
-orderly-append before (m ∷ xs) ys = by_case (is_out_of_order before m) (is_leave m) (orderly-append (before ++ m ∷ []) xs ys)
+orderly-append before (m ∷ xs) ys = by_case (is_passed_over m) (is_out_of_order before m) (is_leave m) (orderly-append before xs ys) (orderly-append (before ++ m ∷ []) xs ys)
   where
-    by_case : (b l : Bool) → orderly (before ++ m ∷ []) (xs ++ ys) ≡ goes_on (end_among (before ++ m ∷ []) xs) (orderly (before ++ m ∷ []) xs) ys
-        → cond b before (cond l (before ++ m ∷ []) (orderly (before ++ m ∷ []) (xs ++ ys)))
-        ≡ goes_on (cond b (Some Broken) (cond l (Some Left) (end_among (before ++ m ∷ []) xs)))
-        (cond b before (cond l (before ++ m ∷ []) (orderly (before ++ m ∷ []) xs))) ys
-    by_case true l q = refl
-    by_case false true q = refl
-    by_case false false q = q
+    by_case : (o b l : Bool) → orderly before (xs ++ ys) ≡ goes_on (end_among before xs) (orderly before xs) ys
+        → orderly (before ++ m ∷ []) (xs ++ ys) ≡ goes_on (end_among (before ++ m ∷ []) xs) (orderly (before ++ m ∷ []) xs) ys
+        → cond o (orderly before (xs ++ ys)) (cond b before (cond l (before ++ m ∷ []) (orderly (before ++ m ∷ []) (xs ++ ys))))
+        ≡ goes_on (cond o (end_among before xs) (cond b (Some Broken) (cond l (Some Left) (end_among (before ++ m ∷ []) xs))))
+        (cond o (orderly before xs) (cond b before (cond l (before ++ m ∷ []) (orderly (before ++ m ∷ []) xs)))) ys
+    by_case true b l p q = p
+    by_case false true l p q = refl
+    by_case false false true p q = refl
+    by_case false false false p q = q
 
 pub end_among-append : (before xs ys : List Content) → end_among before (xs ++ ys) ≡ ends_on (end_among before xs) (orderly before xs) ys
 end_among-append before [] ys = refl
-end_among-append before (m ∷ xs) ys = by_case (is_out_of_order before m) (is_leave m) (end_among-append (before ++ m ∷ []) xs ys)
+end_among-append before (m ∷ xs) ys = by_case (is_passed_over m) (is_out_of_order before m) (is_leave m) (end_among-append before xs ys) (end_among-append (before ++ m ∷ []) xs ys)
   where
-    by_case : (b l : Bool) → end_among (before ++ m ∷ []) (xs ++ ys) ≡ ends_on (end_among (before ++ m ∷ []) xs) (orderly (before ++ m ∷ []) xs) ys
-        → cond b (Some Broken) (cond l (Some Left) (end_among (before ++ m ∷ []) (xs ++ ys)))
-        ≡ ends_on (cond b (Some Broken) (cond l (Some Left) (end_among (before ++ m ∷ []) xs)))
-        (cond b before (cond l (before ++ m ∷ []) (orderly (before ++ m ∷ []) xs))) ys
-    by_case true l q = refl
-    by_case false true q = refl
-    by_case false false q = q
+    by_case : (o b l : Bool) → end_among before (xs ++ ys) ≡ ends_on (end_among before xs) (orderly before xs) ys
+        → end_among (before ++ m ∷ []) (xs ++ ys) ≡ ends_on (end_among (before ++ m ∷ []) xs) (orderly (before ++ m ∷ []) xs) ys
+        → cond o (end_among before (xs ++ ys)) (cond b (Some Broken) (cond l (Some Left) (end_among (before ++ m ∷ []) (xs ++ ys))))
+        ≡ ends_on (cond o (end_among before xs) (cond b (Some Broken) (cond l (Some Left) (end_among (before ++ m ∷ []) xs))))
+        (cond o (orderly before xs) (cond b before (cond l (before ++ m ∷ []) (orderly (before ++ m ∷ []) xs)))) ys
+    by_case true b l p q = p
+    by_case false true l p q = refl
+    by_case false false true p q = refl
+    by_case false false false p q = q
 
 -- the Peer heard xs, and then ys
 heard_more : (before xs ys : List Content) (peer : Peer) → end_among before xs ≡ None → IsHeardAs (orderly before xs) ys peer → IsHeardAs before (xs ++ ys) peer

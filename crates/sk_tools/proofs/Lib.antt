@@ -7,3 +7,5 @@ pub mod TalkLaws
 pub mod SessionLaws
 pub mod TopLaws
 pub mod Examples
+pub mod OutsideLaws
+pub mod OfflineLaws

@@ -3,9 +3,13 @@ pub mod Plans
 pub mod Roles
 pub mod Pipe
 pub mod Run
+pub mod Outside
 pub mod Top
 pub mod Laws
 pub mod Examples
 pub mod Hearing
 pub mod Frames
 pub mod Session
+pub mod Check
+pub mod Offline
+pub mod Program

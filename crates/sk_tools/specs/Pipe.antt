@@ -12,27 +12,30 @@ use Rattle.sk_tools.specs.declared.peer.Over.TheVariants.{Left, Broken}
 
 -- ## The peer's messages
 
+-- a kind that `pipe` passes over: all but Hello, Leave and NextStep
+abbrev pub is_passed_over : Content → Bool
+is_passed_over (Hello name role address) = false
+is_passed_over Leave = false
+is_passed_over (NextStep at duration) = false
+is_passed_over _ = true
+
 abbrev pub is_hello : Content → Bool
 is_hello (Hello name role address) = true
-is_hello Leave = false
-is_hello (NextStep at duration) = false
+is_hello _ = false
 
 -- the Hello of an unsynchronised peer
 abbrev pub is_free_hello : Content → Bool
 is_free_hello (Hello name role address) = not (is_synchronised role)
-is_free_hello Leave = false
-is_free_hello (NextStep at duration) = false
+is_free_hello _ = false
 
 abbrev pub is_leave : Content → Bool
-is_leave (Hello name role address) = false
 is_leave Leave = true
-is_leave (NextStep at duration) = false
+is_leave _ = false
 
 -- a NextStep at t or later
 abbrev pub announces : ℕ → Content → Bool
-announces t (Hello name role address) = false
-announces t Leave = false
 announces t (NextStep at duration) = nat_le t at
+announces t _ = false
 
 -- behind these messages this one is out of order: a first one that isn't Hello, a second Hello, a NextStep of an
 -- unsynchronised peer, a NextStep that doesn't rise
@@ -41,12 +44,14 @@ is_out_of_order before (Hello name role address) = list_any is_hello before
 is_out_of_order before Leave = not (list_any is_hello before)
 is_out_of_order before (NextStep at duration) =
     not (list_any is_hello before) || list_any is_free_hello before || list_any (announces at) before
+is_out_of_order before _ = false
 
--- behind those before: up to and with Leave, or up to and without the first out of order
+-- behind those before, without those passed over: up to and with Leave, or up to and without the first out of order
 abbrev pub orderly : List Content → List Content → List Content
 orderly before [] = before
 orderly before (m ∷ ms) =
-    if is_out_of_order before m then before
+    if is_passed_over m then orderly before ms
+    else if is_out_of_order before m then before
     else if is_leave m then before ++ m ∷ []
     else orderly (before ++ m ∷ []) ms
 
@@ -54,7 +59,8 @@ orderly before (m ∷ ms) =
 abbrev pub end_among : List Content → List Content → Option Over
 end_among before [] = None
 end_among before (m ∷ ms) =
-    if is_out_of_order before m then Some Broken
+    if is_passed_over m then end_among before ms
+    else if is_out_of_order before m then Some Broken
     else if is_leave m then Some Left
     else end_among (before ++ m ∷ []) ms
 

@@ -1,5 +1,5 @@
 -- What the top call answers.
-use Rattle.std.specs.Prelude.{◌≡◌, ◌⊎◌, ◌++◌, ℕ, Bool, true, Option, Some, List, length, drop}
+use Rattle.std.specs.Prelude.{◌≡◌, ◌⊎◌, ◌++◌, ℕ, Bool, true, Option, Some, None, List, length, drop}
 use Rattle.sk_base.specs.Talk.{Said}
 use Rattle.sk_tools.specs.Words.{Job, job_of}
 use Rattle.sk_tools.specs.declared.status.Status.{Status}
@@ -20,6 +20,10 @@ said_since before now = drop (length before) now
 -- on a link that tells its talk, where the words have a reading: this holds of that plan and of what was said in this call
 abbrev pub InRun : Bool → List (List ℕ) → List Said → List Said → (Job → List Said → Type 0) → Type 0
 InRun tells words before now P = tells ≡ true → (job : Job) → job_of words ≡ Some job → P job (said_since before now)
+
+-- status 2 comes exactly where the words have no reading, unless memory ran out
+abbrev pub IsUsage : {A : Type 0} → Option A → ℕ → Type 0
+IsUsage reading answer = (answer ≡ 2 → reading ≡ None) × (reading ≡ None → (answer ≡ 2) ⊎ (answer ≡ 5))
 
 -- the run was stopped: by a fault of the link, want of memory, or a bound
 abbrev pub IsStopped : ℕ → Type 0

@@ -1,10 +1,44 @@
--- What `pipe NAME STEP DURATION` reads of the words.
-use Rattle.std.specs.Prelude.{ℕ, ◌^◌, Bool, not, ◌&&◌, nat_lt, nat_le, nat_eq, Option, Some, None, List, [], ◌∷◌, length, codes, if◌then◌else◌}
-use Rattle.std.specs.List.{list_all, starts_with}
+-- What the words of each command read as: clap's reading of one simple command, whose first word is the command's own,
+-- and then the program's own ranges.
+use Rattle.std.specs.Prelude.{ℕ, ◌^◌, ◌==◌, Bool, true, false, not, ◌&&◌, nat_lt, nat_le, Option, Some, None, option_and_then, List, [], ◌∷◌, length, codes, if◌then◌else◌}
+use Rattle.std.specs.List.{list_all}
 use Rattle.std.specs.Str.{bytes_eq}
 use Rattle.std.specs.Char.{is_ascii_digit}
 use Rattle.std.specs.Str.Parse.{digits_value}
+use Rattle.clap.specs.Words.{App, Row, Rule, Text, new_app, new_rule, with_rule, matches_of, first_of, fault_of}
+use Rattle.clap.specs.declared.builder.action.ArgAction.TheVariants.{Set}
 use Rattle.sk_base.specs.Ranges.{is_name}
+
+-- ## By clap
+
+-- a word that has to be given
+abbrev pub needed : Text → Rule
+needed id = record (new_rule id) { required = true; action = Some Set }
+
+unfoldable pub pipe_app : App
+pipe_app = with_rule (with_rule (with_rule (new_app (codes "pipe"))
+    (needed (codes "NAME"))) (needed (codes "STEP"))) (needed (codes "DURATION"))
+
+unfoldable pub check_app : App
+check_app = with_rule (new_app (codes "check")) (needed (codes "FILE"))
+
+-- the command takes the words
+unfoldable pub takes_words : App → List Text → Bool
+takes_words app words = length (fault_of app words) == 0
+
+-- what it finds in them
+unfoldable pub rows_read : App → List Text → List Row
+rows_read app words = matches_of app words
+
+unfoldable pub value_of : List Row → Text → Option Text
+value_of rows id = first_of id rows
+
+-- the first word
+abbrev pub is_command : List ℕ → List Text → Bool
+is_command name [] = false
+is_command name (word ∷ words) = bytes_eq word name
+
+-- ## `pipe NAME STEP DURATION`
 
 -- the plan of a run
 pub record Job : Type 0 where
@@ -17,11 +51,24 @@ abbrev pub is_number : ℕ → ℕ → List ℕ → Bool
 is_number low high text =
     nat_lt 0 (length text) && list_all is_ascii_digit text && nat_le low (digits_value 10 text) && nat_le (digits_value 10 text) high
 
--- exactly four words, the first `pipe`; NAME is a name that doesn't begin with `-`, STEP is from 1 to 2^60, DURATION from 0 to 2^61
-abbrev pub job_of : List (List ℕ) → Option Job
-job_of (command ∷ name ∷ step ∷ duration ∷ []) =
-    if bytes_eq command (codes "pipe") && not (starts_with nat_eq name (codes "-")) && is_name name
-    && is_number 1 (2 ^ 60) step && is_number 0 (2 ^ 61) duration
+-- NAME is a name, STEP is from 1 to 2^60, DURATION from 0 to 2^61
+abbrev pub job_from : Text → Text → Text → Option Job
+job_from name step duration =
+    if is_name name && is_number 1 (2 ^ 60) step && is_number 0 (2 ^ 61) duration
     then Some (record { name = name; step = digits_value 10 step; duration = digits_value 10 duration })
     else None
-job_of _ = None
+
+abbrev pub job_in : List Row → Option Job
+job_in rows =
+    option_and_then (λ name. option_and_then (λ step. option_and_then (λ duration. job_from name step duration)
+    (value_of rows (codes "DURATION"))) (value_of rows (codes "STEP"))) (value_of rows (codes "NAME"))
+
+abbrev pub job_of : List Text → Option Job
+job_of words =
+    if is_command (codes "pipe") words && takes_words pipe_app words then job_in (rows_read pipe_app words) else None
+
+-- ## `check FILE`
+
+abbrev pub file_to_check : List Text → Option Text
+file_to_check words =
+    if is_command (codes "check") words && takes_words check_app words then value_of (rows_read check_app words) (codes "FILE") else None

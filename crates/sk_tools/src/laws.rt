@@ -1,7 +1,8 @@
 //! Laws of what `pipe` writes: functions that do nothing, whose contracts are the laws.
 
-ghost use Rattle.std.specs.Prelude.{◌≡◌, [], ◌∷◌};
+ghost use Rattle.std.specs.Prelude.{◌≡◌, [], ◌∷◌, Some, None, codes};
 ghost use Rattle.sk_tools.specs.Pipe.{pipe_out};
+ghost use Rattle.sk_tools.specs.Words.{job_of, file_to_check};
 ghost use Rattle.sk_tools.specs.Laws.{MoreIsMore, IsNoRun, early_talk, late_talk, one_earlier_talk, longer_talk};
 ghost use Rattle.sk_tools.specs.Examples as examples;
 
@@ -24,4 +25,20 @@ pub fn works()
     ensures ended { pipe_out (65 ∷ []) 1000000 3000000 examples.taken_ended ≡ examples.given_ended }
     ensures below { pipe_out (65 ∷ []) 1000000 3000000 examples.taken_below ≡ examples.given_below }
     ensures at_once { pipe_out (65 ∷ []) 1 0 [] ≡ examples.given_at_once }
+{}
+
+/// What words read as that are written out: behind `--` each word is a value, before it a word that
+/// begins with a hyphen is none, but for the hyphen alone; help, a word too few and one too many have
+/// no reading.
+pub fn reads_words()
+    ensures behind { file_to_check (codes "check" ∷ codes "--" ∷ codes "-x" ∷ []) ≡ Some (codes "-x") }
+    ensures before { file_to_check (codes "check" ∷ codes "-x" ∷ []) ≡ None }
+    ensures alone { file_to_check (codes "check" ∷ codes "-" ∷ []) ≡ Some (codes "-") }
+    ensures help { file_to_check (codes "check" ∷ codes "--help" ∷ []) ≡ None }
+    ensures few { file_to_check (codes "check" ∷ []) ≡ None }
+    ensures many { file_to_check (codes "check" ∷ codes "f" ∷ codes "g" ∷ []) ≡ None }
+    ensures other { file_to_check (codes "Check" ∷ codes "f" ∷ []) ≡ None }
+    ensures pipe_help { job_of (codes "pipe" ∷ codes "--help" ∷ []) ≡ None }
+    ensures pipe_few { job_of (codes "pipe" ∷ codes "A" ∷ codes "1" ∷ []) ≡ None }
+    ensures pipe_option { job_of (codes "pipe" ∷ codes "A" ∷ codes "1" ∷ codes "5" ∷ codes "--x" ∷ []) ≡ None }
 {}

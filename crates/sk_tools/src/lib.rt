@@ -6,14 +6,26 @@
 //! byte of its input a constant number of times, and keeps no more than one message of it.
 #![tactic(auto)]
 
+pub mod check;
+#[cfg(test)]
+mod check_tests;
+pub mod check_words;
+pub mod checked;
+pub mod host;
 pub mod laws;
+pub mod offline;
 pub mod peer;
 pub mod pipe;
+pub mod pipe_words;
 pub mod plan;
+pub mod reading;
 pub mod session;
 pub mod status;
 #[cfg(test)]
 mod tests;
 pub mod words;
+pub mod writing;
 
+pub use host::{Host, silkit};
+pub use offline::silkit_offline;
 pub use pipe::silkit_pipe;

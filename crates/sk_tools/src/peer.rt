@@ -140,6 +140,20 @@ impl Peer {
             Content::Hello { role, .. } => self.note_hello(*role),
             Content::Leave => self.note_leave(),
             Content::NextStep { at, .. } => self.note_step(*at),
+            // The other kinds are passed over.
+            Content::ServiceAdd { .. }
+            | Content::ServicesEnd
+            | Content::Status { .. }
+            | Content::Workflow { .. }
+            | Content::Abort
+            | Content::Can { .. }
+            | Content::Eth { .. }
+            | Content::Lin { .. }
+            | Content::LinResponse { .. }
+            | Content::Publish { .. }
+            | Content::Call { .. }
+            | Content::Reply { .. }
+            | Content::Refuse { .. } => {}
         }
     }
 

@@ -1,17 +1,18 @@
 //! The command `pipe`.
 
-ghost use Rattle.std.specs.Prelude.{◌≡◌, ◌≢◌, ◌⊎◌, ◌++◌, ◌↔◌, true, Some, None, List, map, string_bytes};
+ghost use Rattle.std.specs.Prelude.{◌≡◌, ◌≢◌, ◌⊎◌, ◌++◌, true, Some, None, List, map, string_bytes};
 ghost use Rattle.sk_base.specs.Talk.{Said, Rose, given, taken};
 ghost use Rattle.sk_tools.specs.Words.{job_of};
 ghost use Rattle.sk_tools.specs.Pipe.{pipe_out};
 ghost use Rattle.sk_tools.specs.Run.{IsInStep, IsPipe, HasLeft, IsBroken, HasNoLeave, IsFull, IsTired};
 ghost use Rattle.sk_tools.specs.Session.{CountsFaults};
-ghost use Rattle.sk_tools.specs.Top.{said_since, InRun, IsExactly, IsStopped, IsThrough};
+ghost use Rattle.sk_tools.specs.Top.{said_since, InRun, IsExactly, IsStopped, IsThrough, IsUsage};
 
+use crate::pipe_words::read_plan;
 use crate::plan::Plan;
 use crate::session::Session;
 use crate::status::Status;
-use crate::words::{Refused, read_words};
+use crate::words::Refused;
 use sk_base::{Files, Link};
 use std::alloc::Global;
 
@@ -37,7 +38,7 @@ pub fn silkit_pipe<L: Link, F: Files>(
     link: &mut L,
     files: &mut F,
 ) -> u8
-    ensures usage { (result ≡ 2) ↔ (job_of (map string_bytes words.now) ≡ None) }
+    ensures usage { IsUsage (job_of (map string_bytes words.now)) result }
     ensures files { files.new ≡ files.old }
 
     // The count of the link's faults rose with status 4, and with no other.
@@ -46,7 +47,7 @@ pub fn silkit_pipe<L: Link, F: Files>(
 
     // What was said before this call stays; without a reading nothing is said.
     ensures talk { L.tells link.old ≡ true → L.talk link.new ≡ L.talk link.old ++ said_since (L.talk link.old) (L.talk link.new) }
-    ensures silent { L.tells link.old ≡ true → result ≡ 2 → L.talk link.new ≡ L.talk link.old }
+    ensures silent { L.tells link.old ≡ true → job_of (map string_bytes words.now) ≡ None → L.talk link.new ≡ L.talk link.old }
 
     // At every place of the talk what was given is what is due for the bytes taken, and no more.
     ensures in_step { InRun (L.tells link.old) (map string_bytes words.now) (L.talk link.old) (L.talk link.new)
@@ -63,9 +64,10 @@ pub fn silkit_pipe<L: Link, F: Files>(
     ensures tired { InRun (L.tells link.old) (map string_bytes words.now) (L.talk link.old) (L.talk link.new) (λ _ said. IsTired said → result ≡ 8) }
 {
     let _ = files;
-    match read_words(alloc, words) {
+    match read_plan(alloc, words) {
         Ok(plan) => run(alloc, plan, link).number(),
         Err(Refused::Memory) => Status::Memory.number(),
+        Err(Refused::Words(_)) => USAGE,
         Err(Refused::Usage) => USAGE,
     }
 }

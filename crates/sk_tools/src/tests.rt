@@ -189,6 +189,34 @@ fn no_duration(rt: HostRuntime) -> Result<(), Fail> {
     Ok(())
 }
 
+/// Each call of the run on one piece, which takes once and gives three times.
+#[test]
+fn each_call_fails_once(rt: HostRuntime) -> Result<(), Fail> {
+    let alloc = rt.alloc();
+    let all = joined(alloc, &ALL)?;
+    for (call, number, status) in [
+        (CallKind::Take, 1, 4),
+        (CallKind::Take, 2, 0),
+        (CallKind::Give, 1, 4),
+        (CallKind::Give, 2, 4),
+        (CallKind::Give, 3, 4),
+        (CallKind::Give, 4, 0),
+    ] {
+        let mut fails = Vec::new(alloc);
+        fails.push(FailAt {
+            call,
+            link: 0,
+            number,
+        })?;
+        let takes = one_piece(alloc, &AHEAD)?;
+        let mut link = MemLink::new(alloc, takes, Vec::new(alloc), fails);
+        assert_eq!(rt; run(alloc, &WORDS, &mut link)?, status);
+        assert!(rt; all.as_slice().starts_with(link.given()));
+        assert!(rt; (link.given().len() == all.len()) == (status == 0));
+    }
+    Ok(())
+}
+
 #[test]
 fn failing_calls(rt: HostRuntime) -> Result<(), Fail> {
     let alloc = rt.alloc();
@@ -234,14 +262,18 @@ fn too_many_waits(rt: HostRuntime) -> Result<(), Fail> {
 fn words_out_of_form(rt: HostRuntime) -> Result<(), Fail> {
     let alloc = rt.alloc();
     let long = "aaaaaaaaaaaaaaaaaaaaaaaaaaaaaaaaaaaaaaaaaaaaaaaaaaaaaaaaaaaaaaaaa";
-    let table: [&[&str]; 17] = [
+    let table: [&[&str]; 21] = [
         &[],
+        &["--help"],
+        &["pipe", "--help"],
+        &["pipe", "A", "1", "5", "--help"],
+        &["pipe", "--version"],
+        &["pipe", "A", "1", "5", "--fast"],
         &["pipe"],
         &["pipe", "A", "1"],
         &["pipe", "A", "1", "5", "6"],
         &["Pipe", "A", "1", "5"],
         &["pipe", "", "1", "5"],
-        &["pipe", "-", "1", "5"],
         &["pipe", "-A", "1", "5"],
         &["pipe", long, "1", "5"],
         &["pipe", "a\nb", "1", "5"],
@@ -258,12 +290,31 @@ fn words_out_of_form(rt: HostRuntime) -> Result<(), Fail> {
         assert_eq!(rt; run(alloc, words, &mut link)?, 2);
         assert_eq!(rt; link.given().len(), 0);
     }
-    // Leading zeros are read.
-    let mut link = link_of(alloc, one_piece(alloc, &AHEAD)?);
-    assert_eq!(rt;
-        run(alloc, &["pipe", "A", "01000000", "0003000000"], &mut link)?,
-        0
-    );
-    assert_eq!(rt; link.given(), joined(alloc, &ALL)?.as_slice());
+    Ok(())
+}
+
+/// Words that have a reading though they look odd: leading zeros, a name that begins with a hyphen
+/// behind `--`, and one that is a hyphen alone.
+#[test]
+fn odd_words(rt: HostRuntime) -> Result<(), Fail> {
+    let alloc = rt.alloc();
+    let table: [&[&str]; 4] = [
+        &["pipe", "A", "01000000", "0003000000"],
+        &["pipe", "--", "A", "1000000", "3000000"],
+        &["pipe", "A", "1000000", "--", "3000000"],
+        &["pipe", "A", "1000000", "3000000", "--"],
+    ];
+    for words in table {
+        let mut link = link_of(alloc, one_piece(alloc, &AHEAD)?);
+        assert_eq!(rt; run(alloc, words, &mut link)?, 0);
+        assert_eq!(rt; link.given(), joined(alloc, &ALL)?.as_slice());
+    }
+    for words in [
+        ["pipe", "-", "1", "0", "--"],
+        ["pipe", "--", "-A", "1", "0"],
+    ] {
+        let mut link = link_of(alloc, one_piece(alloc, &[HELLO_B, LEAVE])?);
+        assert_eq!(rt; run(alloc, &words, &mut link)?, 0);
+    }
     Ok(())
 }

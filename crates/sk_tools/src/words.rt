@@ -1,24 +1,94 @@
-//! The words of `pipe`.
+//! Words, read by one simple `clap` command for each command of the program, of which the first
+//! word is the name. Ranges are looked at behind it.
 
-ghost use Rattle.std.specs.Prelude.{◌≡◌, ◌≤◌, [], ◌∷◌, map, Some, None, true, false, IfSome, MatchOption, MatchResult, string_bytes};
+ghost use Rattle.std.specs.Prelude.{◌≡◌, ◌≤◌, ◌⊎◌, Some, true, false, map, codes, option_map, IfOk, IfErr, IfSome, MatchOption, string_bytes};
 ghost use Rattle.std.specs.Char.{is_ascii_digit};
 ghost use Rattle.std.specs.List.{list_all};
 ghost use Rattle.std.specs.Str.Parse.{digits_value};
-ghost use Rattle.sk_tools.specs.Words.{is_number, job_of};
-ghost use Rattle.sk_tools.specs.Plans.{IsPlanOf, IsRefusalOf};
+ghost use Rattle.clap.specs.Words.{app_of, found_of, rows_of, rule_of, is_simple_and_free};
+ghost use Rattle.sk_tools.specs.Words.{takes_words, rows_read, value_of, is_number};
+ghost use Rattle.sk_tools.specs.Words as words_of;
+ghost use Rattle.sk_tools.specs.declared.words.Refused.TheVariants.{Memory};
 
-use crate::plan::Plan;
-use sk_base::limits::{LONGEST_RUN_NS, LONGEST_STEP_NS};
-use sk_base::{Name, NameFault};
-use std::alloc::Global;
+use clap::error::ErrorKind;
+use clap::{Arg, ArgAction, ArgMatches, Command};
+use std::alloc::{AllocError, AllocFailed, Global};
 
-/// Why there is no plan.
-#[derive(Clone, Copy, Debug, PartialEq, Eq)]
+/// Why words have no reading.
+#[derive(Debug, Drop)]
 pub enum Refused {
-    /// The words have no reading.
+    /// They don't fit the command, or ask for help: what is said of them.
+    Words(String),
+    /// They fit the command, and a name or a number is out of its form, or no command is named.
     Usage,
-    /// They have one, and there was no memory for it.
+    /// They weren't read: there was no memory.
     Memory,
+}
+
+impl<T: Drop> From<AllocFailed<T>> for Refused {
+    ghost from_gives = { λ _ refused. refused ≡ Memory };
+
+    fn from(_error: AllocFailed<T>) -> Refused {
+        Refused::Memory
+    }
+}
+
+impl From<AllocError> for Refused {
+    ghost from_gives = { λ _ refused. refused ≡ Memory };
+
+    fn from(_error: AllocError) -> Refused {
+        Refused::Memory
+    }
+}
+
+/// Whether this is the first of the words.
+pub fn is_command(words: &[String], name: &str) -> bool
+    ensures { result ≡ words_of.is_command name.now (map string_bytes words.now) }
+{
+    match words.first() {
+        Some(word) => word.as_str() == name,
+        None => false,
+    }
+}
+
+/// A word that has to be given.
+pub fn needed<'a>(alloc: Global, id: &'a str) -> Arg<'a>
+    ensures rule { rule_of result ≡ words_of.needed id.entry.now }
+    ensures local { result.global ≡ false }
+{
+    Arg::new(alloc, id).required(true).action(ArgAction::Set)
+}
+
+/// What a simple command finds in the words.
+pub fn parse<'a>(
+    alloc: Global,
+    command: Command<'a>,
+    words: &'a [String],
+) -> Result<ArgMatches<'a>, Refused>
+    requires { is_simple_and_free (app_of command) ≡ true }
+    ensures taken { IfOk result (λ _. takes_words (app_of command.entry) (map string_bytes words.entry.now) ≡ true) }
+    ensures rows { IfOk result (λ found. rows_of (found_of found) ≡ rows_read (app_of command.entry) (map string_bytes words.entry.now)) }
+    ensures refused { IfErr result (λ refused. (refused ≡ Refused.Memory) ⊎ (takes_words (app_of command.entry) (map string_bytes words.entry.now) ≡ false)) }
+{
+    match command.try_get_matches_from(words) {
+        Ok(matches) => Ok(matches),
+        Err(error) => {
+            if let ErrorKind::OutOfMemory = error.kind() {
+                return Err(Refused::Memory);
+            }
+            match error.to_string(alloc) {
+                Ok(text) => Err(Refused::Words(text)),
+                Err(_) => Err(Refused::Memory),
+            }
+        }
+    }
+}
+
+/// The first value of an argument.
+pub fn value<'a>(matches: &ArgMatches<'a>, id: &str) -> Option<&'a str>
+    ensures { option_map (λ text. text.now) result ≡ value_of (rows_of (found_of matches.now)) id.now }
+{
+    matches.get_str(id)
 }
 
 /// Whether each byte is a decimal digit.
@@ -29,7 +99,7 @@ fn is_digits(text: &str) -> bool
 }
 
 /// One or more decimal digits, of a number from low to high.
-fn number_between(low: u64, high: u64, text: &str) -> Option<u64>
+pub fn number_between(low: u64, high: u64, text: &str) -> Option<u64>
     ensures reads { MatchOption result (is_number low high text.now ≡ false) (λ n. (is_number low high text.now ≡ true) × (n ≡ digits_value 10 text.now)) }
     ensures range { IfSome result (λ n. (low ≤ n) × (n ≤ high)) }
 {
@@ -45,53 +115,5 @@ fn number_between(low: u64, high: u64, text: &str) -> Option<u64>
             }
         }
         Err(_) => None,
-    }
-}
-
-/// Reads `pipe NAME STEP DURATION`.
-pub fn read_words(alloc: Global, words: &[String]) -> Result<Plan, Refused>
-    ensures { MatchResult result (IsPlanOf (job_of (map string_bytes words.now))) (IsRefusalOf (job_of (map string_bytes words.now))) }
-{
-    match words {
-        [command, name, step, duration] => read_four(
-            alloc,
-            command.as_str(),
-            name.as_str(),
-            step.as_str(),
-            duration.as_str(),
-        ),
-        _ => Err(Refused::Usage),
-    }
-}
-
-#[tactic(auto, unfolding(sk_msg::specs::Rules::is_step_size))]
-fn read_four(
-    alloc: Global,
-    command: &str,
-    name: &str,
-    step: &str,
-    duration: &str,
-) -> Result<Plan, Refused>
-    ensures { let job = job_of (command.now ∷ name.now ∷ step.now ∷ duration.now ∷ []) in MatchResult result (IsPlanOf job) (IsRefusalOf job) }
-{
-    if command != "pipe" || name.starts_with("-") {
-        return Err(Refused::Usage);
-    }
-    let Some(step) = number_between(1, LONGEST_STEP_NS, step) else {
-        return Err(Refused::Usage);
-    };
-    let Some(duration) = number_between(0, LONGEST_RUN_NS, duration) else {
-        return Err(Refused::Usage);
-    };
-    match Name::new(alloc, name) {
-        Ok(name) => Ok(Plan {
-            name,
-            step,
-            duration,
-        }),
-        Err(fault) => match fault {
-            NameFault::WantOfMemory => Err(Refused::Memory),
-            _ => Err(Refused::Usage),
-        },
     }
 }

@@ -6,7 +6,7 @@ use Rattle.std.proofs.lemmas.Bool.{le-ltb, lt-ltb, cases_lt}
 use Rattle.std.proofs.lemmas.List.{take-append-drop, length-take}
 use Rattle.sk_wire.specs.declared.fault.BodyFault.{BodyFault}
 use Rattle.sk_wire.specs.Reading.{Reading, ◌>>=◌, cut, bad}
-use Rattle.sk_wire.specs.Fields.{Field, Numbered, limit_of, IsCutBehind, number_at, number, counted_at, counted, nothing, ◌&◌, chosen, choice}
+use Rattle.sk_wire.specs.Fields.{Field, Numbered, limit_of, IsCutBehind, number_at, number, counted_at, counted, nothing, ◌&◌, chosen, choice, held, such_that, items_at, items_faults, list, IsBad}
 use Rattle.sk_wire.specs.Stream.{AreBytes}
 use Rattle.sk_wire.proofs.FieldLaws.{AreBytes-rest, AreBytes-front, Lawful, IsWide, wide8, number_takes, number_again, counted_takes, counted_again}
 
@@ -157,3 +157,85 @@ choice_judged {A = A} code value = record {
   where
     is : (bytes : List ℕ) (e : BodyFault) → ◌≡◌ {A = Reading A} (Err (cut bytes)) (Err e) → cut bytes ≡ e
     is bytes e h = cc
+
+-- ---- another form, and one more rule
+
+pub such_that_judged : {A : Type 0} (rule : A → Bool) (f : Field A) (m : ℕ) → Lawful A f m → Judged A f → Judged A (such_that rule f)
+such_that_judged {A = A} rule f m lawful judged = record {
+  fails = λ bytes e fits h.
+      elim (bind_err (f.at bytes) (λ x. cond (rule x.0) (Ok x) (Err (bad bytes))) e h) [
+        | inl d ↦ inl (judged.fails bytes e fits d)
+        | inr d ↦
+            let t = lawful.takes bytes d.0 fits d.1 in
+            let r = test_err (rule d.0.0) d.0 (bad bytes) e d.2 in
+            inr (r.1, (d.0.0, d.0.1, (t.1, t.0), r.0))
+      ];
+  faulty = λ bytes e h.
+      elim h [
+        | inl d ↦ rw (judged.faulty bytes e d) refl
+        | inr d ↦
+            let read : f.at bytes ≡ Ok (d.1.0, d.1.1) = ap f.at d.1.2.1 ∙ lawful.again d.1.0 d.1.1 d.1.2.0 in
+            rw (read, d.1.3, d.0) refl
+      ];
+}
+
+pub held_judged : {A B : Type 0} (made : A → B) (parts : B → A) (f : Field A) → Judged A f → Judged B (held made parts f)
+held_judged made parts f judged = record {
+  fails = λ bytes e fits h.
+      elim (bind_err (f.at bytes) (λ x. Ok (made x.0, x.1)) e h) [
+        | inl d ↦ judged.fails bytes e fits d
+        | inr d ↦ let n = d.2 in absurd cc
+      ];
+  faulty = λ bytes e h. rw (judged.faulty bytes e h) refl;
+}
+
+-- ---- lists
+
+module _ {A : Type 0} (item : List A → Field A) (most : ℕ) (lawful : (before : List A) → Lawful A (item before) most) (judged : (before : List A) → Judged A (item before)) where
+  items_fails : (n : ℕ) (before : List A) (bytes : List ℕ) (e : BodyFault) → AreBytes bytes → items_at item n before bytes ≡ Err e → items_faults item n before bytes e
+  items_fails zero before bytes e fits h = absurd cc
+  items_fails (suc n) before bytes e fits h =
+      elim (bind_err ((item before).at bytes) (λ x. items_at item n (before ++ x.0 ∷ []) x.1 >>= λ xs. Ok (x.0 ∷ xs.0, xs.1)) e h) [
+        | inl d ↦ inl ((judged before).fails bytes e fits d)
+        | inr d ↦
+            let t = (lawful before).takes bytes d.0 fits d.1 in
+            elim (bind_err (items_at item n (before ++ d.0.0 ∷ []) d.0.1) (λ xs. Ok (d.0.0 ∷ xs.0, xs.1)) e d.2) [
+              | inl s ↦ inr (d.0.0, d.0.1, (t.1, t.0), items_fails n (before ++ d.0.0 ∷ []) d.0.1 e (AreBytes-rest bytes ((item before).spelling d.0.0) d.0.1 fits t.0) s)
+              | inr s ↦ let n = s.2 in absurd cc
+            ]
+      ]
+
+  items_faulty : (n : ℕ) (before : List A) (bytes : List ℕ) (e : BodyFault) → items_faults item n before bytes e → items_at item n before bytes ≡ Err e
+  items_faulty zero before bytes e h = absurd h
+  items_faulty (suc n) before bytes e (inl d) = rw ((judged before).faulty bytes e d) refl
+  items_faulty (suc n) before bytes e (inr d) =
+      let read : (item before).at bytes ≡ Ok (d.0, d.1) = ap (item before).at d.2.1 ∙ (lawful before).again d.0 d.1 d.2.0 in
+      rw (read, items_faulty n (before ++ d.0 ∷ []) d.1 e d.3) refl
+
+  pub list_judged : (many : ℕ → Bool) → Judged (List A) (list many item)
+  list_judged many = record {
+    fails = λ bytes e fits h.
+        elim (number_cases w8 wide8 bytes fits) [
+          | inl c ↦ let same : cut bytes ≡ e = is bytes e (sym (ap (λ (r : Reading ℕ). r >>= λ n. cond (many n.0) (items_at item n.0 [] n.1) (Err (bad bytes))) c.1) ∙ h) in inl (sym same, c.0)
+          | inr c ↦
+              let after : cond (many c.0) (items_at item c.0 [] c.1) (Err (bad bytes)) ≡ Err e = sym (ap (λ (r : Reading ℕ). r >>= λ n. cond (many n.0) (items_at item n.0 [] n.1) (Err (bad bytes))) c.3) ∙ h in
+              inr (c.0, c.1, c.2, counted_or (many c.0) (items_at item c.0 [] c.1) bytes e after (items_fails c.0 [] c.1 e (AreBytes-rest bytes (to_le_bytes w8 c.0) c.1 fits c.2.1)))
+        ];
+    faulty = λ bytes e f.
+        elim f [
+          | inl c ↦ rw (number_cut w8 bytes c.1, c.0) refl
+          | inr c ↦
+              let read = number_read w8 wide8 bytes c.0 c.1 c.2 in
+              elim c.3 [
+                | inl b ↦ rw (read, b.1, b.0) refl
+                | inr b ↦ rw (read, b.0) (items_faulty c.0 [] c.1 e b.1)
+              ]
+        ];
+  }
+    where
+      is : (bytes : List ℕ) (e : BodyFault) → ◌≡◌ {A = Reading (List A)} (Err (cut bytes)) (Err e) → cut bytes ≡ e
+      is bytes e h = cc
+
+      counted_or : {P : Type 0} (b : Bool) (r : Reading (List A)) (bytes : List ℕ) (e : BodyFault) → cond b r (Err (bad bytes)) ≡ Err e → (r ≡ Err e → P) → (IsBad bytes e × (b ≡ false)) ⊎ ((b ≡ true) × P)
+      counted_or true r bytes e h f = inr (refl, f h)
+      counted_or false r bytes e h f = inl (cc, refl)

@@ -8,7 +8,10 @@ use Rattle.std.proofs.lemmas.Bool.{cases_lt}
 use Rattle.std.proofs.lemmas.Nat.{le_bytes_2, le_bytes_4, le_bytes_8, from_le_bytes-to_le_bytes_2, from_le_bytes-to_le_bytes_4, from_le_bytes-to_le_bytes_8}
 use Rattle.sk_wire.specs.declared.fault.BodyFault.{BodyFault}
 use Rattle.sk_wire.specs.Reading.{◌>>=◌, cut, bad}
-use Rattle.sk_wire.specs.Fields.{Field, number_at, number, counted_at, counted, nothing, ◌&◌, chosen, choice}
+use Rattle.std.specs.List.{flat_map}
+use Rattle.std.proofs.lemmas.Nat.{mul-le}
+use Rattle.sk_msg.specs.Each.{each_after}
+use Rattle.sk_wire.specs.Fields.{Field, number_at, number, counted_at, counted, nothing, ◌&◌, chosen, choice, held, such_that, items_at, list}
 use Rattle.sk_wire.specs.Stream.{AreBytes}
 
 pub AreBytes-rest : (bytes front rest : List ℕ) → AreBytes bytes → bytes ≡ front ++ rest → AreBytes rest
@@ -175,3 +178,86 @@ choice_lawful {A = A} code value back forth small = record {
   again = λ x rest ok. rw (number_again w8 (2 ^ 8) wide8 (code x) rest (small x), back x) refl;
   bound = λ x ok. omega arith;
 }
+
+pub held_lawful : {A B : Type 0} (made : A → B) (parts : B → A) (f : Field A) (most : ℕ) → ((y : B) → made (parts y) ≡ y) → ((x : A) → parts (made x) ≡ x) → Lawful A f most → Lawful B (held made parts f) most
+held_lawful {A = A} {B = B} made parts f most there here lawful = record {
+  takes = λ bytes y fits e.
+      let b = bind_ok (f.at bytes) (λ x. Ok (made x.0, x.1)) y e in
+      let t = lawful.takes bytes b.0 fits b.1 in
+      let same : (bytes ≡ f.spelling (parts (made b.0.0)) ++ b.0.1) × (f.fits (parts (made b.0.0)) ≡ true) = subst (λ (x : A). (bytes ≡ f.spelling x ++ b.0.1) × (f.fits x ≡ true)) (sym (here b.0.0)) t in
+      subst (λ (z : B × List ℕ). (bytes ≡ f.spelling (parts z.0) ++ z.1) × (f.fits (parts z.0) ≡ true)) (ok_is (made b.0.0, b.0.1) y b.2) same;
+  again = λ y rest ok. rw (lawful.again (parts y) rest ok, there y) refl;
+  bound = λ y ok. lawful.bound (parts y) ok;
+}
+
+-- ---- one more rule
+
+pub such_that_lawful : {A : Type 0} (rule : A → Bool) (f : Field A) (most : ℕ) → Lawful A f most → Lawful A (such_that rule f) most
+such_that_lawful {A = A} rule f most lawful = record {
+  takes = λ bytes x fits e.
+      let b = bind_ok (f.at bytes) (λ x. cond (rule x.0) (Ok x) (Err (bad bytes))) x e in
+      let g = guard_passed (rule b.0.0) (bad bytes) b.0 x b.2 in
+      let t = lawful.takes bytes b.0 fits b.1 in
+      subst (λ (y : A × List ℕ). (bytes ≡ f.spelling y.0 ++ y.1) × ((f.fits y.0 && rule y.0) ≡ true)) g.1 (t.0, and_from _ _ t.1 g.0);
+  again = λ x rest ok.
+      let both = and_parts (f.fits x) (rule x) ok in
+      rw (lawful.again x rest both.0, both.1) refl;
+  bound = λ x ok. lawful.bound x (and_parts (f.fits x) (rule x) ok).0;
+}
+
+-- ---- lists
+
+module _ {A : Type 0} (item : List A → Field A) (most : ℕ) (lawful : (before : List A) → Lawful A (item before) most) (same : (before : List A) (x : A) → (item before).spelling x ≡ (item []).spelling x) where
+  abbrev spelled : A → List ℕ
+  spelled = (item []).spelling
+
+  abbrev fitting : List A → A → Bool
+  fitting before x = (item before).fits x
+
+  items_takes : (n : ℕ) (before : List A) (bytes : List ℕ) (x : List A × List ℕ) → AreBytes bytes → items_at item n before bytes ≡ Ok x
+      → (bytes ≡ flat_map spelled x.0 ++ x.1) × (length x.0 ≡ n) × (each_after fitting before x.0 ≡ true)
+  items_takes zero before bytes x fits e =
+      subst (λ (y : List A × List ℕ). (bytes ≡ flat_map spelled y.0 ++ y.1) × (length y.0 ≡ 0) × (each_after fitting before y.0 ≡ true)) (ok_is ([], bytes) x e) (refl, refl, refl)
+  items_takes (suc n) before bytes x fits e =
+      let b = bind_ok ((item before).at bytes) (λ x. items_at item n (before ++ x.0 ∷ []) x.1 >>= λ xs. Ok (x.0 ∷ xs.0, xs.1)) x e in
+      let c = bind_ok (items_at item n (before ++ b.0.0 ∷ []) b.0.1) (λ xs. Ok (b.0.0 ∷ xs.0, xs.1)) x b.2 in
+      let t = (lawful before).takes bytes b.0 fits b.1 in
+      let u = items_takes n (before ++ b.0.0 ∷ []) b.0.1 c.0 (AreBytes-rest bytes ((item before).spelling b.0.0) b.0.1 fits t.0) c.1 in
+      let parts : bytes ≡ flat_map spelled (b.0.0 ∷ c.0.0) ++ c.0.1 =
+      t.0 ∙ ap (λ (s : List ℕ). s ++ b.0.1) (same before b.0.0) ∙ ap (λ (r : List ℕ). spelled b.0.0 ++ r) u.0 ∙ sym (append_assoc (spelled b.0.0) (flat_map spelled c.0.0) c.0.1) in
+      subst (λ (y : List A × List ℕ). (bytes ≡ flat_map spelled y.0 ++ y.1) × (length y.0 ≡ suc n) × (each_after fitting before y.0 ≡ true)) (ok_is (b.0.0 ∷ c.0.0, c.0.1) x c.2) (parts, ap suc u.1, and_from _ _ t.1 u.2)
+
+  items_again : (xs before : List A) (rest : List ℕ) → each_after fitting before xs ≡ true → items_at item (length xs) before (flat_map spelled xs ++ rest) ≡ Ok (xs, rest)
+  items_again [] before rest ok = refl
+  items_again (x ∷ xs) before rest ok =
+      let both = and_parts (fitting before x) (each_after fitting (before ++ x ∷ []) xs) ok in
+      let split : flat_map spelled (x ∷ xs) ++ rest ≡ (item before).spelling x ++ (flat_map spelled xs ++ rest) =
+      append_assoc (spelled x) (flat_map spelled xs) rest ∙ ap (λ (s : List ℕ). s ++ (flat_map spelled xs ++ rest)) (sym (same before x)) in
+      ap (items_at item (suc (length xs)) before) split
+      ∙ rw ((lawful before).again x (flat_map spelled xs ++ rest) both.0, items_again xs (before ++ x ∷ []) rest both.1) refl
+
+  items_bound : (xs before : List A) → each_after fitting before xs ≡ true → length (flat_map spelled xs) ≤ length xs * most
+  items_bound [] before ok = omega arith
+  items_bound (x ∷ xs) before ok =
+      let both = and_parts (fitting before x) (each_after fitting (before ++ x ∷ []) xs) ok in
+      omega (arith, (lawful before).bound x both.0, ap (λ (s : List ℕ). length s) (same before x), items_bound xs (before ++ x ∷ []) both.1, length-append (spelled x) (flat_map spelled xs))
+
+  pub list_lawful : (many : ℕ → Bool) (max : ℕ) → ((n : ℕ) → many n ≡ true → (n ≤ max) × (n < 2 ^ 8)) → Lawful (List A) (list many item) (1 + max * most)
+  list_lawful many max range = record {
+    takes = λ bytes x fits e.
+        let b = bind_ok (number_at w8 bytes) (λ n. cond (many n.0) (items_at item n.0 [] n.1) (Err (bad bytes))) x e in
+        let g = guard_is (bad bytes) (many b.0.0) (items_at item b.0.0 [] b.0.1) x b.2 in
+        let t = number_takes w8 (2 ^ 8) wide8 bytes b.0 fits b.1 in
+        let u = items_takes b.0.0 [] b.0.1 x (AreBytes-rest bytes (to_le_bytes w8 b.0.0) b.0.1 fits t) g.1 in (
+          t ∙ ap (λ (k : ℕ). to_le_bytes w8 k ++ b.0.1) (sym u.1) ∙ ap (λ (r : List ℕ). to_le_bytes w8 (length x.0) ++ r) u.0 ∙ sym (append_assoc (to_le_bytes w8 (length x.0)) (flat_map spelled x.0) x.1),
+          and_from _ _ (ap many u.1 ∙ g.0) u.2,
+        );
+    again = λ xs rest ok.
+        let both = and_parts (many (length xs)) (each_after fitting [] xs) ok in
+        ap (list many item).at (append_assoc (to_le_bytes w8 (length xs)) (flat_map spelled xs) rest)
+        ∙ rw (number_again w8 (2 ^ 8) wide8 (length xs) (flat_map spelled xs ++ rest) (range (length xs) both.0).1, both.0) (items_again xs [] rest both.1);
+    bound = λ xs ok.
+        let both = and_parts (many (length xs)) (each_after fitting [] xs) ok in
+        let m = mul-le (length xs) most max most (range (length xs) both.0).0 (omega arith) in
+        omega (arith, m, items_bound xs [] both.1, length-append (to_le_bytes w8 (length xs)) (flat_map spelled xs));
+  }

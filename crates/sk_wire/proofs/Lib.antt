@@ -8,3 +8,4 @@ pub mod StreamLaws
 pub mod ReadingLaws
 pub mod DecoderLaws
 pub mod PutLaws
+pub mod ListLoop

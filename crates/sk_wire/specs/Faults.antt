@@ -6,7 +6,7 @@ use Rattle.sk_wire.specs.declared.fault.WireFault.{WireFault}
 use Rattle.sk_wire.specs.declared.fault.BodyFault.{BodyFault}
 use Rattle.sk_wire.specs.Reading.{cut}
 use Rattle.sk_wire.specs.Fields.{Field, Stands, IsBad}
-use Rattle.sk_wire.specs.Kinds.{hello_row, leave_row, next_step_row}
+use Rattle.sk_wire.specs.Kinds.{hello_row, leave_row, next_step_row, service_add_row, services_end_row, status_row, workflow_row, abort_row, can_row, eth_row, lin_row, lin_response_row, publish_row, call_row, reply_row, refuse_row}
 
 -- the first fault in the fields, or the first byte that is left behind the last of them
 abbrev pub RowFaults : {A : Type 0} → Field A → List ℕ → BodyFault → Type 0
@@ -19,7 +19,20 @@ KindFaults kind bytes fault =
     MatchBool (kind == 1) (RowFaults hello_row bytes fault)
     (MatchBool (kind == 2) (RowFaults leave_row bytes fault)
     (MatchBool (kind == 3) (RowFaults next_step_row bytes fault)
-    (fault ≡ record { left = 1 + length bytes; what = BadKind })))
+    (MatchBool (kind == 4) (RowFaults service_add_row bytes fault)
+    (MatchBool (kind == 5) (RowFaults services_end_row bytes fault)
+    (MatchBool (kind == 6) (RowFaults status_row bytes fault)
+    (MatchBool (kind == 7) (RowFaults workflow_row bytes fault)
+    (MatchBool (kind == 8) (RowFaults abort_row bytes fault)
+    (MatchBool (kind == 9) (RowFaults can_row bytes fault)
+    (MatchBool (kind == 10) (RowFaults eth_row bytes fault)
+    (MatchBool (kind == 11) (RowFaults lin_row bytes fault)
+    (MatchBool (kind == 12) (RowFaults lin_response_row bytes fault)
+    (MatchBool (kind == 13) (RowFaults publish_row bytes fault)
+    (MatchBool (kind == 14) (RowFaults call_row bytes fault)
+    (MatchBool (kind == 15) (RowFaults reply_row bytes fault)
+    (MatchBool (kind == 16) (RowFaults refuse_row bytes fault)
+    (fault ≡ record { left = 1 + length bytes; what = BadKind }))))))))))))))))
 
 -- a version other than 1 stands at its byte, a kind that the table lacks at its
 unfoldable pub BodyFaults : List ℕ → BodyFault → Type 0

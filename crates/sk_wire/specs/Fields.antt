@@ -1,8 +1,9 @@
 -- The types of fields, and how fields follow one another. A field says how a value is spelled, which values fit, and what
 -- the first fault is; beside it stands the plain program that reads it. Numbers are little-endian.
-use Rattle.std.specs.Prelude.{◌≡◌, ◌⊎◌, ◌<◌, ◌^◌, ℕ, Bool, true, false, ◌&&◌, List, [], ◌++◌, length, take, drop, Option, Some, None, Ok, Err, nat_lt, if◌then◌else◌}
+use Rattle.std.specs.Prelude.{◌≡◌, ◌⊎◌, ◌<◌, ◌^◌, ℕ, zero, suc, Bool, true, false, ◌&&◌, List, [], ◌∷◌, ◌++◌, length, take, drop, Option, Some, None, Ok, Err, nat_lt, if◌then◌else◌}
 use Rattle.std.specs.Int.{Width, w8, byte_len, to_le_bytes, from_le_bytes}
-use Rattle.sk_msg.specs.Rules.{any}
+use Rattle.std.specs.List.{flat_map}
+use Rattle.sk_msg.specs.Each.{any, each_after}
 use Rattle.sk_wire.specs.declared.fault.BodyFault.{BodyFault}
 use Rattle.sk_wire.specs.Reading.{Reading, ◌>>=◌, cut, bad}
 
@@ -105,4 +106,51 @@ abbrev pub ◌&◌ : {A B : Type 0} → Field A → (A → Field B) → Field (A
       first.faults bytes fault
       ⊎ ((x : A) × (behind : List ℕ) × Stands first bytes x behind × (second x).faults behind fault);
   at = λ bytes. first.at bytes >>= λ x. (second x.0).at x.1 >>= λ y. Ok ((x.0, y.0), y.1);
+}
+
+-- ## A field held in another form, and a field with one more rule
+
+abbrev pub held : {A B : Type 0} → (A → B) → (B → A) → Field A → Field B
+held made parts field = record {
+  spelling = λ y. field.spelling (parts y);
+  fits = λ y. field.fits (parts y);
+  faults = field.faults;
+  at = λ bytes. field.at bytes >>= λ x. Ok (made x.0, x.1);
+}
+
+-- the rule is judged where the field stands
+abbrev pub such_that : {A : Type 0} → (A → Bool) → Field A → Field A
+such_that {A = A} rule field = record {
+  spelling = field.spelling;
+  fits = λ x. field.fits x && rule x;
+  faults = λ bytes fault.
+      field.faults bytes fault
+      ⊎ (IsBad bytes fault × ((x : A) × (behind : List ℕ) × Stands field bytes x behind × (rule x ≡ false)));
+  at = λ bytes. field.at bytes >>= λ x. if rule x.0 then Ok x else Err (bad bytes);
+}
+
+-- ## A list: a count of one byte, and so many items
+
+-- each item is read by a field that may look at the items before it
+abbrev pub items_at : {A : Type 0} → (List A → Field A) → ℕ → List A → List ℕ → Reading (List A)
+items_at item zero before bytes = Ok ([], bytes)
+items_at item (suc n) before bytes =
+    (item before).at bytes >>= λ x. items_at item n (before ++ x.0 ∷ []) x.1 >>= λ xs. Ok (x.0 ∷ xs.0, xs.1)
+
+-- the first fault in so many items
+abbrev pub items_faults : {A : Type 0} → (List A → Field A) → ℕ → List A → List ℕ → BodyFault → Type 0
+items_faults item zero before bytes fault = ⊥
+items_faults {A = A} item (suc n) before bytes fault =
+    (item before).faults bytes fault
+    ⊎ ((x : A) × (behind : List ℕ) × Stands (item before) bytes x behind × items_faults item n (before ++ x ∷ []) behind fault)
+
+abbrev pub list : {A : Type 0} → (ℕ → Bool) → (List A → Field A) → Field (List A)
+list many item = record {
+  spelling = λ xs. to_le_bytes w8 (length xs) ++ flat_map (item []).spelling xs;
+  fits = λ xs. many (length xs) && each_after (λ before x. (item before).fits x) [] xs;
+  faults = λ bytes fault.
+      (IsCut bytes fault × (length bytes < 1))
+      ⊎ ((n : ℕ) × (behind : List ℕ) × Numbered w8 bytes n behind
+      × ((IsBad bytes fault × (many n ≡ false)) ⊎ ((many n ≡ true) × items_faults item n [] behind fault)));
+  at = λ bytes. number_at w8 bytes >>= λ n. if many n.0 then items_at item n.0 [] n.1 else Err (bad bytes);
 }

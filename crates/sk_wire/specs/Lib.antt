@@ -1,6 +1,7 @@
 pub mod Reading
 pub mod Fields
 pub mod Kinds
+pub mod Held
 pub mod Grammar
 pub mod Faults
 pub mod Stream

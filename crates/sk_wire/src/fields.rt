@@ -6,9 +6,12 @@ ghost use Rattle.sk_wire.specs.Kinds as kinds;
 ghost use Rattle.sk_wire.specs.Puts.{Puts};
 
 use crate::fault::ReadError;
-use crate::numbers::{Cursor, bad_field, put_short_bytes, put_u8, put_u64};
-use sk_base::{Name, SimTime, Text, WantOfMemory};
-use sk_msg::{Role, is_step_size};
+use crate::numbers::{
+    Cursor, bad_field, put_long_bytes, put_short_bytes, put_u8, put_u32, put_u64,
+};
+use sk_base::{Bytes, BytesFault, Name, SimTime, Text, WantOfMemory};
+use sk_msg::Role;
+use sk_msg::rules::{is_call, is_lin_id, is_mark, is_service_id, is_step_size};
 use std::alloc::Global;
 
 impl<'a> Cursor<'a> {
@@ -47,6 +50,78 @@ impl<'a> Cursor<'a> {
         let ns = self.u64()?;
         if is_step_size(ns) {
             Ok(ns)
+        } else {
+            Err(bad_field(left))
+        }
+    }
+
+    #[tactic(auto, unfolding(crate::specs::Kinds::payload))]
+    pub fn payload(&mut self, alloc: Global) -> Result<Bytes, ReadError>
+        ensures { Gives (λ bytes. (bytes, self.new)) result (kinds.payload.at self.old) }
+    {
+        let left = self.left();
+        let bytes = self.long_bytes()?;
+        match Bytes::new(alloc, bytes) {
+            Ok(bytes) => Ok(bytes),
+            Err(BytesFault::WantOfMemory) => Err(ReadError::Memory),
+            Err(BytesFault::TooLong(_)) => Err(bad_field(left)),
+        }
+    }
+
+    #[tactic(auto, using(crate::proofs::PutLaws::in_range), unfolding(crate::specs::Kinds::any32))]
+    pub fn any32(&mut self) -> Result<u32, ReadError>
+        ensures { Gives (λ n. (n, self.new)) result (kinds.any32.at self.old) }
+    {
+        self.u32()
+    }
+
+    #[tactic(auto, unfolding(crate::specs::Kinds::mark))]
+    pub fn mark(&mut self) -> Result<u64, ReadError>
+        ensures { Gives (λ n. (n, self.new)) result (kinds.mark.at self.old) }
+    {
+        let left = self.left();
+        let number = self.u64()?;
+        if is_mark(number) {
+            Ok(number)
+        } else {
+            Err(bad_field(left))
+        }
+    }
+
+    #[tactic(auto, unfolding(crate::specs::Kinds::call))]
+    pub fn call(&mut self) -> Result<u64, ReadError>
+        ensures { Gives (λ n. (n, self.new)) result (kinds.call.at self.old) }
+    {
+        let left = self.left();
+        let number = self.u64()?;
+        if is_call(number) {
+            Ok(number)
+        } else {
+            Err(bad_field(left))
+        }
+    }
+
+    #[tactic(auto, unfolding(crate::specs::Kinds::service_id))]
+    pub fn service_id(&mut self) -> Result<u32, ReadError>
+        ensures { Gives (λ n. (n, self.new)) result (kinds.service_id.at self.old) }
+    {
+        let left = self.left();
+        let number = self.u32()?;
+        if is_service_id(number) {
+            Ok(number)
+        } else {
+            Err(bad_field(left))
+        }
+    }
+
+    #[tactic(auto, unfolding(crate::specs::Kinds::lin_id))]
+    pub fn lin_id(&mut self) -> Result<u8, ReadError>
+        ensures { Gives (λ n. (n, self.new)) result (kinds.lin_id.at self.old) }
+    {
+        let left = self.left();
+        let number = self.u8()?;
+        if is_lin_id(number) {
+            Ok(number)
         } else {
             Err(bad_field(left))
         }
@@ -117,4 +192,46 @@ pub fn put_role(to: &mut Vec<u8>, role: Role) -> Result<(), WantOfMemory>
         Role::Tool => 4,
     };
     put_u8(to, bits)
+}
+
+#[tactic(auto, unfolding(crate::specs::Kinds::payload))]
+pub fn put_payload(to: &mut Vec<u8>, bytes: &Bytes) -> Result<(), WantOfMemory>
+    ensures { Puts result to.old.items to.new.items (kinds.payload.spelling bytes.now) }
+{
+    put_long_bytes(to, bytes.as_slice())
+}
+
+#[tactic(auto, unfolding(crate::specs::Kinds::any32))]
+pub fn put_any32(to: &mut Vec<u8>, n: u32) -> Result<(), WantOfMemory>
+    ensures { Puts result to.old.items to.new.items (kinds.any32.spelling n) }
+{
+    put_u32(to, n)
+}
+
+#[tactic(auto, unfolding(crate::specs::Kinds::mark))]
+pub fn put_mark(to: &mut Vec<u8>, mark: u64) -> Result<(), WantOfMemory>
+    ensures { Puts result to.old.items to.new.items (kinds.mark.spelling mark) }
+{
+    put_u64(to, mark)
+}
+
+#[tactic(auto, unfolding(crate::specs::Kinds::call))]
+pub fn put_call(to: &mut Vec<u8>, call: u64) -> Result<(), WantOfMemory>
+    ensures { Puts result to.old.items to.new.items (kinds.call.spelling call) }
+{
+    put_u64(to, call)
+}
+
+#[tactic(auto, unfolding(crate::specs::Kinds::service_id))]
+pub fn put_service_id(to: &mut Vec<u8>, id: u32) -> Result<(), WantOfMemory>
+    ensures { Puts result to.old.items to.new.items (kinds.service_id.spelling id) }
+{
+    put_u32(to, id)
+}
+
+#[tactic(auto, unfolding(crate::specs::Kinds::lin_id))]
+pub fn put_lin_id(to: &mut Vec<u8>, id: u8) -> Result<(), WantOfMemory>
+    ensures { Puts result to.old.items to.new.items (kinds.lin_id.spelling id) }
+{
+    put_u8(to, id)
 }

@@ -12,15 +12,15 @@
 //! ```
 #![tactic(auto)]
 
+pub mod choices;
 pub mod decoder;
 pub mod fault;
 pub mod fields;
 pub mod frames;
 pub mod kinds;
 pub mod laws;
+pub mod lists;
 pub mod numbers;
-#[cfg(test)]
-mod tests;
 
 pub use decoder::{Decoder, Fed};
 pub use fault::{What, WireFault};

@@ -1,7 +1,7 @@
 //! Numbers and counted bytes: what all fields are made of, read from a body and written to a buffer.
 
 ghost use Rattle.std.specs.Prelude.{◌≡◌, ◌++◌, ◌^◌, ◌<◌, length};
-ghost use Rattle.std.specs.Int.{w8, w32, w64, to_le_bytes};
+ghost use Rattle.std.specs.Int.{w8, w16, w32, w64, to_le_bytes};
 ghost use Rattle.sk_wire.specs.Reading.{Gives};
 ghost use Rattle.sk_wire.specs.Fields.{number_at, counted_at, spelled_counted};
 ghost use Rattle.sk_wire.specs.Puts.{Puts};
@@ -70,6 +70,28 @@ impl<'a> Cursor<'a> {
         }
     }
 
+    pub fn u16(&mut self) -> Result<u16, ReadError>
+        ensures { Gives (λ n. (n, self.new)) result (number_at w16 self.old) }
+    {
+        if self.rest.len() < 2 {
+            return Err(short(self.rest.len()));
+        }
+        let (front, rest) = self.rest.split_at(2);
+        self.rest = rest;
+        Ok(u16::from_le_bytes([front[0], front[1]]))
+    }
+
+    pub fn u32(&mut self) -> Result<u32, ReadError>
+        ensures { Gives (λ n. (n, self.new)) result (number_at w32 self.old) }
+    {
+        if self.rest.len() < 4 {
+            return Err(short(self.rest.len()));
+        }
+        let (front, rest) = self.rest.split_at(4);
+        self.rest = rest;
+        Ok(u32::from_le_bytes([front[0], front[1], front[2], front[3]]))
+    }
+
     pub fn u64(&mut self) -> Result<u64, ReadError>
         ensures { Gives (λ n. (n, self.new)) result (number_at w64 self.old) }
     {
@@ -96,12 +118,33 @@ impl<'a> Cursor<'a> {
         self.rest = rest;
         Ok(front)
     }
+
+    /// A length of two bytes, and so many bytes.
+    pub fn long_bytes(&mut self) -> Result<&'a [u8], ReadError>
+        ensures { Gives (λ bytes. (bytes.now, self.new)) result (counted_at w16 self.old) }
+    {
+        let left = self.rest.len();
+        let len = self.u16()? as usize;
+        if self.rest.len() < len {
+            return Err(short(left));
+        }
+        let (front, rest) = self.rest.split_at(len);
+        self.rest = rest;
+        Ok(front)
+    }
 }
 
 pub fn put_u8(to: &mut Vec<u8>, n: u8) -> Result<(), WantOfMemory>
     ensures { Puts result to.old.items to.new.items (to_le_bytes w8 n) }
 {
     to.push(n)?;
+    Ok(())
+}
+
+pub fn put_u16(to: &mut Vec<u8>, n: u16) -> Result<(), WantOfMemory>
+    ensures { Puts result to.old.items to.new.items (to_le_bytes w16 n) }
+{
+    to.extend_from_slice(&n.to_le_bytes())?;
     Ok(())
 }
 
@@ -125,6 +168,16 @@ pub fn put_short_bytes(to: &mut Vec<u8>, bytes: &[u8]) -> Result<(), WantOfMemor
     ensures { Puts result to.old.items to.new.items (spelled_counted w8 bytes.now) }
 {
     put_u8(to, bytes.len() as u8)?;
+    to.extend_from_slice(bytes)?;
+    Ok(())
+}
+
+/// A length of two bytes, and so many bytes.
+pub fn put_long_bytes(to: &mut Vec<u8>, bytes: &[u8]) -> Result<(), WantOfMemory>
+    requires { length bytes.now < 2 ^ 16 }
+    ensures { Puts result to.old.items to.new.items (spelled_counted w16 bytes.now) }
+{
+    put_u16(to, bytes.len() as u16)?;
     to.extend_from_slice(bytes)?;
     Ok(())
 }

@@ -31,5 +31,5 @@ returns-else-earlier-time-clause-hears c = λ before duration h.
     let time = c.ns-time.ensures.value in
     let last = c.in-Some.earlier in
     let stands : Stands before (Bound (Some last)) = subst (λ (o : Option ℕ). Stands before (Bound o)) c.in-Some.is (subst (Stands before) c.in-Bound.is (h.stands refl)) in
-    heard_bad before (NextStep c.args.at duration) _
+    heard_bad before (NextStep c.args.at duration) refl _
     (next-bad before last c.args.at duration (let falls = c.if-earlier-time.false in omega (arith, falls, time)) stands.0 stands.1) refl h.begun_is

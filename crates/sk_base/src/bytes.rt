@@ -1,0 +1,61 @@
+//! Bytes that a message carries.
+
+ghost use Rattle.std.specs.Prelude.{◌≡◌, ◌⊎◌, ℕ, List, length, ◌≤◌, false, IsTrue, IfOk, IfErr};
+ghost use Rattle.sk_base.specs.declared.fault.BytesFault.{BytesFault};
+ghost use Rattle.sk_base.specs.Ranges.{is_payload};
+
+use crate::fault::{BytesFault, WantOfMemory};
+use crate::limits::LONGEST_PAYLOAD;
+use std::alloc::Global;
+use std::marker::Model;
+
+/// At most 4,096 bytes. Contracts see them.
+#[derive(Debug, Drop)]
+pub struct Bytes {
+    bytes: Vec<u8>,
+}
+
+impl Model for Bytes {
+    ghost Value = { List ℕ };
+
+    ghost view = { λ b. b.bytes.items };
+
+    ghost invariant = { λ b. IsTrue (is_payload b.bytes.items) };
+}
+
+impl Bytes {
+    /// These bytes, or TooLong where there are more than 4,096.
+    #[tactic(auto, unfolding(crate::specs::Ranges::is_payload))]
+    pub fn new(alloc: Global, data: &[u8]) -> Result<Bytes, BytesFault>
+        ensures made { IfOk result (λ made. (made ≡ data.now) × IsTrue (is_payload data.now)) }
+        ensures memory { result ≡ Err BytesFault.WantOfMemory → IsTrue (is_payload data.now) }
+        ensures refused { is_payload data.now ≡ false → result ≡ Err (BytesFault.TooLong (length data.now)) }
+        ensures only { IfErr result (λ fault. (fault ≡ BytesFault.WantOfMemory) ⊎ ((fault ≡ BytesFault.TooLong (length data.now)) × (is_payload data.now ≡ false))) }
+    {
+        if data.len() > LONGEST_PAYLOAD {
+            return Err(BytesFault::TooLong(data.len()));
+        }
+        Ok(Bytes {
+            bytes: Vec::from_slice(alloc, data)?,
+        })
+    }
+
+    /// The same bytes again.
+    pub fn copy(&self, alloc: Global) -> Result<Bytes, WantOfMemory>
+        ensures { IfOk result (λ copy. copy ≡ self.now) }
+    {
+        Ok(Bytes {
+            bytes: Vec::from_slice(alloc, &self.bytes)?,
+        })
+    }
+
+    /// The bytes.
+    #[tactic(auto, unfolding(crate::specs::Ranges::is_payload))]
+    pub fn as_slice(&self) -> &[u8]
+        ensures value { result.now ≡ self.now }
+        ensures payload { IsTrue (is_payload self.now) }
+        ensures short { length result.now ≤ 4096 }
+    {
+        self.bytes.as_slice()
+    }
+}

@@ -1,0 +1,137 @@
+-- A JSON value never has the two faults that aren't of its content.
+use Rattle.std.proofs.Common.{◌≡◌, ℕ, ◌+◌, Bool, true, false, cond, List, [], ◌∷◌, ◌++◌, Option, Some, None, Err, option_and_then, is_none, refl}
+use Rattle.std.specs.Prelude.{◌↔◌, nat_lt}
+use Rattle.serde_json.specs.Data.{Data, Items, no_items, item}
+use Rattle.serde_json.specs.Events.{items_len}
+use Rattle.serde_json.specs.Find.{get, as_object, as_str, as_array}
+use Rattle.sk_base.specs.Ranges.{is_name}
+use Rattle.sk_msg.specs.declared.service.ServiceKind.{ServiceKind}
+use Rattle.sk_msg.specs.declared.service.ServiceKind.TheVariants.{Can, Ethernet, Lin, Publisher, Subscriber, Server, Client}
+use Rattle.sk_config.specs.Configs.{is_new, is_address}
+use Rattle.sk_config.specs.Keys.{row_of}
+use Rattle.sk_config.specs.Paths.{key_at, index_at}
+use Rattle.sk_config.specs.Reading.{whole, name_of, entry_of, first_of, object_fault, string_fault, text_fault, missing_fault, double_fault, number_fault, history_fault, entry_name_fault, entry_fault, entries_fault, array_fault, list_fault, middleware_fault, fault_of, reading_or, reading_at, json_of, reading_from, reading}
+use Rattle.sk_config.specs.declared.config.ConfigEntry.{ConfigEntry}
+use Rattle.sk_config.specs.declared.config.ConfigRead.{ConfigRead}
+use Rattle.sk_config.specs.declared.fault.ConfigFault.{ConfigFault}
+use Rattle.sk_config.specs.declared.fault.ConfigFault.TheVariants.{NotJson, Missing, WrongType, BadValue, Double, WantOfMemory}
+use Rattle.sk_config.specs.declared.keys.TheConstants.{PARTICIPANT_NAME, MIDDLEWARE, NAME, HISTORY, REGISTRY_URI}
+
+-- a fault of a value's content, if any
+abbrev IsOfValue : Option ConfigFault → Type 0
+IsOfValue None = Unit {0}
+IsOfValue (Some NotJson) = ⊥
+IsOfValue (Some (Missing path)) = Unit {0}
+IsOfValue (Some (WrongType path)) = Unit {0}
+IsOfValue (Some (BadValue path)) = Unit {0}
+IsOfValue (Some (Double path)) = Unit {0}
+IsOfValue (Some WantOfMemory) = ⊥
+
+either : (b : Bool) (one other : Option ConfigFault) → IsOfValue one → IsOfValue other → IsOfValue (cond b one other)
+either true one other p q = p
+either false one other p q = q
+
+both : (a : Option ConfigFault) (later : List (Option ConfigFault)) → IsOfValue a → IsOfValue (first_of later) → IsOfValue (first_of (a ∷ later))
+both None later p q = q
+both (Some fault) later p q = p
+
+each : {A : Type 0} (f : A → Option ConfigFault) (o : Option A) → ((x : A) → IsOfValue (f x)) → IsOfValue (option_and_then f o)
+each f None h = tt
+each f (Some x) h = h x
+
+of_object : (path : List ℕ) (d : Data) → IsOfValue (object_fault path d)
+unfolding object_fault
+of_object path d = either (is_none (as_object d)) (Some (WrongType path)) None tt tt
+
+of_string : (is_fine : List ℕ → Bool) (path : List ℕ) (o : Option (List ℕ)) → IsOfValue (string_fault is_fine path o)
+of_string is_fine path None = tt
+of_string is_fine path (Some text) = either (is_fine text) None (Some (BadValue path)) tt tt
+
+of_text : (is_fine : List ℕ → Bool) (path key : List ℕ) (d : Data) → IsOfValue (text_fault is_fine path key d)
+unfolding text_fault
+of_text is_fine path key d = each _ (get key d) (λ v. of_string is_fine (key_at path key) (as_str v))
+
+of_missing : (path key : List ℕ) (d : Data) → IsOfValue (missing_fault path key d)
+unfolding missing_fault
+of_missing path key d = either (is_none (get key d)) (Some (Missing (key_at path key))) None tt tt
+
+of_double : (path : List ℕ) (earlier : List ConfigEntry) (d : Data) → IsOfValue (double_fault path earlier d)
+unfolding double_fault
+of_double path earlier d = either (is_new earlier (name_of d)) None (Some (Double (key_at path NAME.now))) tt tt
+
+of_number : (path : List ℕ) (o : Option ℕ) → IsOfValue (number_fault path o)
+of_number path None = tt
+of_number path (Some n) = either (nat_lt n 2) None (Some (BadValue path)) tt tt
+
+of_history : (kind : ServiceKind) (path : List ℕ) (d : Data) → IsOfValue (history_fault kind path d)
+unfolding history_fault
+of_history kind path d = either (row_of kind).has_history _ None (each _ (get HISTORY.now d) (λ v. of_number (key_at path HISTORY.now) (whole v))) tt
+
+of_entry_name : (path : List ℕ) (earlier : List ConfigEntry) (d : Data) → IsOfValue (entry_name_fault path earlier d)
+unfolding entry_name_fault
+of_entry_name path earlier d = both _ _ (of_text is_name path NAME.now d) (both _ _ (of_missing path NAME.now d) (both _ [] (of_double path earlier d) tt))
+
+of_entry : (kind : ServiceKind) (path : List ℕ) (earlier : List ConfigEntry) (d : Data) → IsOfValue (entry_fault kind path earlier d)
+unfolding entry_fault
+of_entry kind path earlier d = both _ _ (of_object path d) (both _ _ (of_entry_name path earlier d) (both _ _ (of_text is_name path (row_of kind).target d) (both _ [] (of_history kind path d) tt)))
+
+of_entries : (kind : ServiceKind) (path : List ℕ) (earlier : List ConfigEntry) (index : ℕ) (ds : Items) → IsOfValue (entries_fault kind path earlier index ds)
+of_entries kind path earlier index no_items = tt
+of_entries kind path earlier index (item d ds) = both _ _ (of_entry kind (index_at path index) earlier d) (both _ [] (of_entries kind path (earlier ++ entry_of kind d ∷ []) (index + 1) ds) tt)
+
+of_array : (kind : ServiceKind) (path : List ℕ) (o : Option Items) → IsOfValue (array_fault kind path o)
+of_array kind path None = tt
+of_array kind path (Some ds) = either (nat_lt 64 (items_len ds)) (Some (BadValue path)) _ tt (of_entries kind path [] 0 ds)
+
+of_list : (path : List ℕ) (d : Data) (kind : ServiceKind) → IsOfValue (list_fault path d kind)
+unfolding list_fault
+of_list path d kind = each _ (get (row_of kind).list d) (λ v. of_array kind (key_at path (row_of kind).list) (as_array v))
+
+of_middleware : (path : List ℕ) (d : Data) → IsOfValue (middleware_fault path d)
+unfolding middleware_fault
+of_middleware path d = each _ (get MIDDLEWARE.now d) (λ v. both _ _ (of_object (key_at path MIDDLEWARE.now) v) (both _ [] (of_text is_address (key_at path MIDDLEWARE.now) REGISTRY_URI.now v) tt))
+
+of_value : (path : List ℕ) (d : Data) → IsOfValue (fault_of path d)
+unfolding fault_of
+of_value path d =
+    let list = of_list path d in
+    both _ _ (of_object path d) (both _ _ (of_text is_name path PARTICIPANT_NAME.now d)
+    (both _ _ (list Can) (both _ _ (list Ethernet) (both _ _ (list Lin) (both _ _ (list Publisher) (both _ _ (list Subscriber) (both _ _ (list Server) (both _ _ (list Client)
+    (both _ [] (of_middleware path d) tt)))))))))
+
+-- what a value reads as is neither NotJson nor want of memory
+no_json_fault : (o : Option ConfigFault) (read : ConfigRead) → IsOfValue o → reading_or o read ≡ Err NotJson → ⊥
+no_json_fault None read h e = absurd cc
+no_json_fault (Some NotJson) read h e = h
+no_json_fault (Some (Missing path)) read h e = absurd cc
+no_json_fault (Some (WrongType path)) read h e = absurd cc
+no_json_fault (Some (BadValue path)) read h e = absurd cc
+no_json_fault (Some (Double path)) read h e = absurd cc
+no_json_fault (Some WantOfMemory) read h e = h
+
+no_memory_fault : (o : Option ConfigFault) (read : ConfigRead) → IsOfValue o → reading_or o read ≡ Err WantOfMemory → ⊥
+no_memory_fault None read h e = absurd cc
+no_memory_fault (Some NotJson) read h e = h
+no_memory_fault (Some (Missing path)) read h e = absurd cc
+no_memory_fault (Some (WrongType path)) read h e = absurd cc
+no_memory_fault (Some (BadValue path)) read h e = absurd cc
+no_memory_fault (Some (Double path)) read h e = absurd cc
+no_memory_fault (Some WantOfMemory) read h e = h
+
+has_no_json : (o : Option Data) → reading_from o ≡ Err NotJson → o ≡ None
+unfolding reading_at
+has_no_json None e = refl
+has_no_json (Some d) e = absurd (no_json_fault (fault_of [] d) _ (of_value [] d) e)
+
+pub not_json_where : (bytes : List ℕ) → (reading bytes ≡ Err NotJson) ↔ (json_of bytes ≡ None)
+unfolding reading
+not_json_where bytes = (has_no_json (json_of bytes), λ none. rw none refl)
+
+no_memory : (o : Option Data) → reading_from o ≡ Err WantOfMemory → ⊥
+unfolding reading_at
+no_memory None e = absurd cc
+no_memory (Some d) e = no_memory_fault (fault_of [] d) _ (of_value [] d) e
+
+pub never_memory : (bytes : List ℕ) → reading bytes ≡ Err WantOfMemory → ⊥
+unfolding reading
+never_memory bytes e = no_memory (json_of bytes) e

@@ -1,0 +1,9 @@
+pub mod AddressLaws
+pub mod PathLaws
+pub mod ReadLaws
+pub mod WriteLaws
+pub mod WholeLaws
+pub mod FoundLaws
+pub mod EntryLaws
+pub mod BackLaws
+pub mod FaultLaws

@@ -1,0 +1,9 @@
+pub mod Rows
+pub mod Keys
+pub mod Paths
+pub mod Warned
+pub mod Configs
+pub mod Reading
+pub mod Outcomes
+pub mod Written
+pub mod Applied

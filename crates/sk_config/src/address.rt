@@ -1,0 +1,69 @@
+//! Addresses of a registry.
+
+ghost use Rattle.std.specs.Prelude.{◌≡◌};
+ghost use Rattle.std.specs.List.{list_all};
+ghost use Rattle.std.specs.Char.{is_ascii_digit};
+ghost use Rattle.sk_config.specs.Configs as spec;
+
+use sk_base::Text;
+
+/// What each address begins with.
+const SCHEME: &str = "silkit://";
+
+/// Whether the text is an address: `silkit://HOST:PORT`, of at most 64 bytes as each text, with
+/// HOST of ASCII letters, digits, `.` and `-`, at least one of them, and PORT decimal digits of a
+/// number from 1 to 65,535.
+pub fn is_address(text: &Text) -> bool
+    ensures { result ≡ spec.is_address text.now }
+{
+    match text.as_str().strip_prefix(SCHEME) {
+        Some(rest) => is_host_and_port(rest),
+        None => false,
+    }
+}
+
+fn is_host_and_port(text: &str) -> bool
+    ensures { result ≡ spec.is_host_and_port text.now }
+{
+    match text.split_once(':') {
+        Some((host, port)) => is_host(host) && is_port(port),
+        None => false,
+    }
+}
+
+fn is_host(host: &str) -> bool
+    ensures { result ≡ spec.is_host host.now }
+{
+    !host.is_empty() && are_host_bytes(host.as_bytes())
+}
+
+fn are_host_bytes(host: &[u8]) -> bool
+    ensures { result ≡ list_all spec.is_host_byte host.now }
+{
+    host.iter().all(|byte| is_host_byte(*byte))
+}
+
+fn is_host_byte(byte: u8) -> bool
+    ensures { result ≡ spec.is_host_byte byte }
+{
+    byte.is_ascii_alphanumeric() || byte == b'.' || byte == b'-'
+}
+
+fn is_port(port: &str) -> bool
+    ensures { result ≡ spec.is_port port.now }
+{
+    if !is_digits(port) {
+        return false;
+    }
+    match port.parse::<u16>() {
+        Ok(number) => number >= 1,
+        Err(_) => false,
+    }
+}
+
+/// Whether each byte is a decimal digit.
+fn is_digits(text: &str) -> bool
+    ensures { result ≡ list_all is_ascii_digit text.now }
+{
+    text.as_bytes().iter().all(|byte| byte.is_ascii_digit())
+}

@@ -1,0 +1,79 @@
+//! What a configuration says in vain.
+
+ghost use Rattle.std.specs.Prelude.{◌≡◌, List, IfOk};
+ghost use Rattle.std.specs.String.{string_bytes};
+ghost use Rattle.sk_config.specs.declared.warning.Warning.{Warning};
+
+use crate::path::Path;
+use sk_base::WantOfMemory;
+use std::alloc::Global;
+use std::marker::Model;
+
+/// A place in a configuration that has no effect.
+#[derive(Debug, Drop)]
+pub struct Warning {
+    pub path: Path,
+    /// Whether this is a key that was passed over. Else it is an entry without a service.
+    pub unused: bool,
+}
+
+impl Warning {
+    ghost use Rattle.std.specs.Prelude.{◌≡◌, IfOk};
+    ghost use Rattle.std.specs.String.{string_bytes};
+    ghost use Rattle.sk_config.specs.Warned.{warning_rule, warning_text};
+
+    /// What is said of the place: `not used` or `no such service`.
+    pub fn rule(&self) -> &'static str
+        ensures { result.now ≡ warning_rule self.now }
+    {
+        if self.unused {
+            "not used"
+        } else {
+            "no such service"
+        }
+    }
+
+    /// Its line, without the line's end: `warning: PATH: not used`, or `no such service`.
+    pub fn text(&self, alloc: Global) -> Result<String, WantOfMemory>
+        ensures { IfOk result (λ text. string_bytes text ≡ warning_text self.now) }
+    {
+        let mut text = String::from_str(alloc, "warning: ")?;
+        text.push_str(self.path.as_str())?;
+        text.push_str(": ")?;
+        text.push_str(self.rule())?;
+        Ok(text)
+    }
+}
+
+/// Warnings in order. Contracts see the list.
+#[derive(Debug, Drop)]
+pub struct Warnings {
+    warnings: Vec<Warning>,
+}
+
+impl Model for Warnings {
+    ghost Value = { List Warning };
+
+    ghost view = { λ warnings. warnings.warnings.items };
+}
+
+impl Warnings {
+    pub fn new(warnings: Vec<Warning>) -> Warnings
+        ensures { result ≡ warnings.items }
+    {
+        Warnings { warnings }
+    }
+
+    pub fn as_slice(&self) -> &[Warning]
+        ensures { result.now ≡ self.now }
+    {
+        self.warnings.as_slice()
+    }
+
+    /// The same list, to be changed.
+    pub fn into_vec(self) -> Vec<Warning>
+        ensures { result.items ≡ self }
+    {
+        self.warnings
+    }
+}

@@ -1,0 +1,5 @@
+pub mod Beginnings
+pub mod ByPlace
+pub mod Writes
+pub mod Besides
+pub mod Growths

@@ -1,0 +1,5 @@
+pub mod Rings
+pub mod Places
+pub mod Links
+pub mod Ends
+pub mod Growth

@@ -1,0 +1,52 @@
+//! Names in order.
+
+ghost use Rattle.std.specs.Prelude.{◌≡◌, ℕ, List, IfOk};
+
+use sk_base::{Name, WantOfMemory};
+use std::alloc::Global;
+use std::marker::Model;
+
+/// Names in order. Contracts see the list.
+#[derive(Debug, Drop)]
+pub struct Names {
+    names: Vec<Name>,
+}
+
+impl Model for Names {
+    ghost Value = { List (List ℕ) };
+
+    ghost view = { λ names. names.names.items };
+}
+
+impl Names {
+    pub fn new(names: Vec<Name>) -> Names
+        ensures { result ≡ names.items }
+    {
+        Names { names }
+    }
+
+    pub fn as_slice(&self) -> &[Name]
+        ensures { result.now ≡ self.now }
+    {
+        self.names.as_slice()
+    }
+
+    /// The same names again.
+    pub fn copy(&self, alloc: Global) -> Result<Names, WantOfMemory>
+        ensures { IfOk result (λ copy. copy ≡ self.now) }
+    {
+        Ok(Names {
+            names: copy_names(alloc, &self.names)?,
+        })
+    }
+}
+
+fn copy_names(alloc: Global, names: &[Name]) -> Result<Vec<Name>, WantOfMemory>
+    ensures { IfOk result (λ copies. copies.items ≡ names.now) }
+{
+    let mut copies = Vec::new(alloc);
+    for name in names {
+        copies.push(name.copy(alloc)?)?;
+    }
+    Ok(copies)
+}

@@ -1,0 +1,46 @@
+//! Services: what a participant offers to others or wants of them.
+
+ghost use Rattle.std.specs.Prelude.{◌≡◌, IfOk};
+
+use crate::spec::Spec;
+use sk_base::{Name, WantOfMemory};
+use std::alloc::Global;
+
+/// What a service is, in the order of the numbers.
+#[derive(Clone, Copy, Debug, PartialEq, Eq)]
+pub enum ServiceKind {
+    Can,
+    Ethernet,
+    Lin,
+    Publisher,
+    Subscriber,
+    Server,
+    Client,
+}
+
+/// A service of a participant.
+#[derive(Debug, Drop)]
+pub struct Service {
+    /// Its number at its participant, 0 to 63.
+    pub id: u32,
+    pub kind: ServiceKind,
+    pub name: Name,
+    pub spec: Spec,
+    /// Whether a publisher keeps its last publication for those who come later. It isn't announced.
+    pub history: bool,
+}
+
+impl Service {
+    /// The same service again.
+    pub fn copy(&self, alloc: Global) -> Result<Service, WantOfMemory>
+        ensures { IfOk result (λ copy. copy ≡ self.now) }
+    {
+        Ok(Service {
+            id: self.id,
+            kind: self.kind,
+            name: self.name.copy(alloc)?,
+            spec: self.spec.copy(alloc)?,
+            history: self.history,
+        })
+    }
+}

@@ -1,0 +1,10 @@
+pub mod System
+pub mod View
+pub mod Notes
+pub mod StateName
+pub mod Lines
+pub mod Roll
+pub mod Notice
+pub mod Monitor
+pub mod Controller
+pub mod History

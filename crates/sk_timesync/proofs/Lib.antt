@@ -1,0 +1,4 @@
+pub mod PeerLaws
+pub mod RuleLaws
+pub mod CountLaws
+pub mod LastLaws

@@ -1,0 +1,49 @@
+-- What reading a whole file and writing a whole text leave of the outside.
+use Rattle.std.specs.Prelude.{◌≡◌, ◌≢◌, ◌≤◌, ◌<◌, ◌^◌, ◌-◌, ◌++◌, ℕ, Bool, true, Option, Some, None, IsSomeAnd, Result, MatchResult, List, length, take}
+use Rattle.sk_base.specs.Talk.{Rose}
+use Rattle.sk_base.specs.declared.fault.Failed.{Failed}
+use Rattle.sk_tools.specs.Run.{IsPrefixOf}
+use Rattle.sk_tools.specs.declared.reading.Unread.{Unread}
+use Rattle.sk_tools.specs.declared.reading.Unread.TheVariants.{Absent, TooLong, Fault, Memory}
+
+-- ## Reading
+
+-- so many bytes of the content were read, and they are these
+pub record IsReadTo (all : List ℕ) (place : ℕ) (bytes : List ℕ) : Type 0 where
+  pub within : place ≤ length all
+  pub front : take place all ≡ bytes
+  pub count : length bytes ≡ place
+
+-- why a file of this content wasn't read
+abbrev pub Explains : Option (List ℕ) → Unread → Type 0
+Explains content Absent = content ≡ None
+Explains content TooLong = IsSomeAnd content (λ bytes. 2 ^ 24 < length bytes)
+Explains content Fault = Unit {0}
+Explains content Memory = Unit {0}
+
+-- these are all its bytes
+abbrev pub IsContent : Option (List ℕ) → List ℕ → Type 0
+IsContent content bytes = (content ≡ Some bytes) × (length bytes ≤ 2 ^ 24)
+
+-- the count of faults rose where the answer is Fault, and stands still everywhere else
+abbrev pub CountsUnread : ℕ → ℕ → Unread → Type 0
+CountsUnread before now Absent = now ≡ before
+CountsUnread before now TooLong = now ≡ before
+CountsUnread before now Fault = Rose before now
+CountsUnread before now Memory = now ≡ before
+
+-- ## Writing
+
+-- a part of the text was written
+abbrev pub IsPartWritten : List ℕ → List ℕ → List ℕ → Type 0
+IsPartWritten before now text = (part : List ℕ) × IsPrefixOf part text × (now ≡ before ++ part)
+
+-- the count tells of no fault: it is the same, and not so high that it stands still
+pub record HasNoFault (before now : ℕ) : Type 0 where
+  pub same : now ≡ before
+  pub counts : before < 2 ^ 64 - 1
+
+-- a text was said to a sink: all of it stands there, where the count tells of no fault
+pub record Says (told : Bool) (faults faults_now : ℕ) (written written_now text : List ℕ) : Type 0 where
+  pub grows : faults ≤ faults_now
+  pub said : told ≡ true → HasNoFault faults faults_now → written_now ≡ written ++ text

@@ -1,0 +1,195 @@
+use crate::{Host, silkit, silkit_offline};
+use sk_base::Idle;
+use sk_base::memory::{CallKind, FailAt, MemFile, MemFiles, MemLink, MemNet, MemSink};
+use std::alloc::{AllocError, Global};
+use std::process::Abort;
+use std::test::Fail;
+
+/// A configuration with a key that isn't used.
+const SOUND: &str =
+    "{\"ParticipantName\":\"A\",\"CanControllers\":[{\"Name\":\"C1\",\"Network\":\"PT\"}],\"Logging\":{\"FlushLevel\":\"Off\"}}";
+
+const TEXT: &str =
+    "{\"CanControllers\":[{\"Name\":\"C1\",\"Network\":\"PT\"}],\"ParticipantName\":\"A\"}\n";
+
+const WARNING: &str = "warning: /Logging: not used\n";
+
+#[derive(Drop)]
+struct NoRest;
+
+impl Idle for NoRest {
+    fn rest(&self) {}
+}
+
+fn words_of(alloc: Global, texts: &[&str]) -> Result<Vec<String>, AllocError> {
+    let mut words = Vec::new(alloc);
+    for text in texts {
+        words.push(String::from_str(alloc, text)?)?;
+    }
+    Ok(words)
+}
+
+fn fails_of(alloc: Global, call: CallKind, number: u64) -> Result<Vec<FailAt>, AllocError> {
+    let mut fails = Vec::new(alloc);
+    fails.push(FailAt {
+        call,
+        link: 0,
+        number,
+    })?;
+    Ok(fails)
+}
+
+/// One file, `a.json`.
+fn files_of(alloc: Global, content: &[u8], fails: Vec<FailAt>) -> Result<MemFiles, AllocError> {
+    let mut files = Vec::new(alloc);
+    files.push(MemFile {
+        path: String::from_str(alloc, "a.json")?,
+        content: content.to_vec(alloc)?,
+    })?;
+    Ok(MemFiles::new(files, fails))
+}
+
+/// What a run of these words on the one file answers, writes and says, where one call fails: that of
+/// this number, or none where it is out of reach.
+fn expect(
+    rt: &(impl Abort + AllocGlobal),
+    words: &[&str],
+    content: &[u8],
+    fail: (CallKind, u64),
+    wanted: (u8, &str, &str),
+) -> Result<(), Fail> {
+    let alloc = rt.alloc();
+    let mut files = files_of(alloc, content, fails_of(alloc, fail.0, fail.1)?)?;
+    let mut out = MemSink::new(alloc, fails_of(alloc, fail.0, fail.1)?);
+    let mut err = MemSink::new(alloc, Vec::new(alloc));
+    let words = words_of(alloc, words)?;
+    assert_eq!(rt;
+        silkit_offline(alloc, &words, &mut files, &mut out, &mut err),
+        wanted.0
+    );
+    assert_eq!(rt; out.written(), wanted.1.as_bytes());
+    assert_eq!(rt; err.written(), wanted.2.as_bytes());
+    Ok(())
+}
+
+const NEVER: (CallKind, u64) = (CallKind::Accept, 1);
+
+const CHECK: [&str; 2] = ["check", "a.json"];
+
+#[test]
+fn configurations(rt: HostRuntime) -> Result<(), Fail> {
+    expect(&rt, &CHECK, SOUND.as_bytes(), NEVER, (0, TEXT, WARNING))?;
+    let table: [(&str, &str); 3] = [
+        (
+            "{\"CanControllers\":[{\"Network\":\"PT\"}]}",
+            "silkit: /CanControllers/0/Name: missing\n",
+        ),
+        (
+            "{\"CanControllers\":[{\"Name\":\"C1\"},{\"Name\":\"C1\"}]}",
+            "silkit: /CanControllers/1/Name: double\n",
+        ),
+        ("[", "silkit: : not JSON\n"),
+    ];
+    for (content, said) in table {
+        expect(&rt, &CHECK, content.as_bytes(), NEVER, (1, "", said))?;
+    }
+    Ok(())
+}
+
+#[test]
+fn faults_of_the_outside(rt: HostRuntime) -> Result<(), Fail> {
+    let sound = SOUND.as_bytes();
+    let read_fault = "silkit: read fault: a.json\n";
+    let cut = "warning: /Logging: not used\nsilkit: write fault\n";
+    expect(&rt, &CHECK, sound, (CallKind::Open, 1), (3, "", read_fault))?;
+    expect(&rt, &CHECK, sound, (CallKind::Read, 1), (3, "", read_fault))?;
+    expect(&rt, &CHECK, sound, (CallKind::Read, 2), (3, "", read_fault))?;
+    expect(&rt, &CHECK, sound, (CallKind::Write, 1), (4, "", cut))?;
+    // A write takes 64 bytes of the text.
+    let front = TEXT.get(..64).ok_or("short")?;
+    expect(&rt, &CHECK, sound, (CallKind::Write, 2), (4, front, cut))?;
+    expect(&rt, &CHECK, sound, (CallKind::Flush, 1), (4, TEXT, cut))?;
+    Ok(())
+}
+
+#[test]
+fn files_that_are_not_read(rt: HostRuntime) -> Result<(), Fail> {
+    let absent = ["check", "b.json"];
+    let said = "silkit: b.json: no such file\n";
+    expect(&rt, &absent, b"{}", NEVER, (1, "", said))?;
+    let mut content = Vec::new(rt.alloc());
+    for _ in 0..16_777_216u32 {
+        content.push(b' ')?;
+    }
+    let said = "silkit: : not JSON\n";
+    expect(&rt, &CHECK, &content, NEVER, (1, "", said))?;
+    content.push(b' ')?;
+    let said = "silkit: a.json: more than 16777216 bytes\n";
+    expect(&rt, &CHECK, &content, NEVER, (1, "", said))?;
+    Ok(())
+}
+
+/// No command, an unknown one, and one that goes to another call; and words that `clap` refuses.
+#[test]
+fn words_without_a_reading(rt: HostRuntime) -> Result<(), Fail> {
+    let alloc = rt.alloc();
+    let table: [&[&str]; 4] = [
+        &[],
+        &["--help"],
+        &["Check", "a.json"],
+        &["pipe", "A", "1", "5"],
+    ];
+    for words in table {
+        expect(&rt, words, b"{}", NEVER, (2, "", "silkit: usage\n"))?;
+    }
+    let table: [&[&str]; 5] = [
+        &["check"],
+        &["check", "--help"],
+        &["check", "a.json", "b.json"],
+        &["check", "--quiet", "a.json"],
+        &["check", "-a.json"],
+    ];
+    for words in table {
+        let mut files = files_of(alloc, b"{}", Vec::new(alloc))?;
+        let mut out = MemSink::new(alloc, Vec::new(alloc));
+        let mut err = MemSink::new(alloc, Vec::new(alloc));
+        let words = words_of(alloc, words)?;
+        assert_eq!(rt;
+            silkit_offline(alloc, &words, &mut files, &mut out, &mut err),
+            2
+        );
+        assert!(rt; out.written().is_empty());
+        assert!(rt; err.written().len() > 30);
+    }
+    expect(
+        &rt,
+        &["check", "--", "a.json"],
+        b"{}",
+        NEVER,
+        (0, "{}\n", ""),
+    )
+}
+
+#[test]
+fn the_whole_program(rt: HostRuntime) -> Result<(), Fail> {
+    let alloc = rt.alloc();
+    let mut host = Host {
+        files: files_of(alloc, SOUND.as_bytes(), Vec::new(alloc))?,
+        out: MemSink::new(alloc, Vec::new(alloc)),
+        err: MemSink::new(alloc, Vec::new(alloc)),
+        link: MemLink::new(alloc, Vec::new(alloc), Vec::new(alloc), Vec::new(alloc)),
+        net: MemNet::without_links(alloc),
+        idle: NoRest,
+    };
+    assert_eq!(rt; silkit(alloc, &words_of(alloc, &CHECK)?, &mut host), 0);
+    assert_eq!(rt; host.out.written(), TEXT.as_bytes());
+    assert_eq!(rt; host.err.written(), WARNING.as_bytes());
+    assert!(rt; host.link.given().is_empty());
+    // The peer's end comes at once.
+    let pipe = words_of(alloc, &["pipe", "A", "1", "0"])?;
+    assert_eq!(rt; silkit(alloc, &pipe, &mut host), 11);
+    assert_eq!(rt; host.link.given().len(), 38);
+    assert_eq!(rt; host.out.written(), TEXT.as_bytes());
+    assert_eq!(rt; host.err.written(), WARNING.as_bytes());
+    Ok(())
+}

@@ -1,0 +1,63 @@
+//! The program as one call.
+
+ghost use Rattle.std.specs.Prelude.{◌≡◌, true, false, codes, map, string_bytes};
+ghost use Rattle.sk_tools.specs.Words as words_of;
+ghost use Rattle.sk_tools.specs.Program.{IsPipeCall, IsOfflineCall};
+
+use crate::offline::silkit_offline;
+use crate::pipe::silkit_pipe;
+use crate::words::is_command;
+use sk_base::{Files, Idle, Link, Net, Sink};
+use std::alloc::Global;
+
+/// The outside that the program is handed.
+#[derive(Drop)]
+pub struct Host<F, O, E, L, N, I> {
+    pub files: F,
+    pub out: O,
+    pub err: E,
+    pub link: L,
+    pub net: N,
+    pub idle: I,
+}
+
+/// The program: the first word chooses the command, and with it the call that does all of it.
+pub fn silkit<F: Files, O: Sink, E: Sink, L: Link, N: Net, I: Idle>(
+    alloc: Global,
+    words: &[String],
+    host: &mut Host<F, O, E, L, N, I>,
+) -> u8
+    ensures pipe { words_of.is_command (codes "pipe") (map string_bytes words.now) ≡ true →
+        IsPipeCall (map string_bytes words.now) (L.tells host.old.link) (L.talk host.old.link) (L.talk host.new.link)
+        (L.faults host.old.link) (L.faults host.new.link) result }
+    ensures offline { words_of.is_command (codes "pipe") (map string_bytes words.now) ≡ false →
+        IsOfflineCall (map string_bytes words.now)
+        (record { tells = F.tells host.old.files; faults = F.faults host.old.files; faults_now = F.faults host.new.files; content = F.content host.old.files })
+        (record {
+          tells = O.tells host.old.out;
+          faults = O.faults host.old.out;
+          faults_now = O.faults host.new.out;
+          written = O.written host.old.out;
+          written_now = O.written host.new.out;
+        })
+        (record {
+          tells = E.tells host.old.err;
+          faults = E.faults host.old.err;
+          faults_now = E.faults host.new.err;
+          written = E.written host.old.err;
+          written_now = E.written host.new.err;
+        })
+        result }
+
+    // What a command has no use for stays as it is.
+    ensures pipe_leaves { words_of.is_command (codes "pipe") (map string_bytes words.now) ≡ true →
+        (host.new.files ≡ host.old.files) × (host.new.out ≡ host.old.out) × (host.new.err ≡ host.old.err) }
+    ensures offline_leaves { words_of.is_command (codes "pipe") (map string_bytes words.now) ≡ false → host.new.link ≡ host.old.link }
+    ensures leaves { (host.new.net ≡ host.old.net) × (host.new.idle ≡ host.old.idle) }
+{
+    if is_command(words, "pipe") {
+        silkit_pipe(alloc, words, &mut host.link, &mut host.files)
+    } else {
+        silkit_offline(alloc, words, &mut host.files, &mut host.out, &mut host.err)
+    }
+}

@@ -1,0 +1,152 @@
+#!/usr/bin/env python3
+"""Runs the proved program `silkit check` on a table of configurations, one case per key and rule.
+
+usage: configurations.py
+
+What is wanted is written from docs/FORMATS.md: the status, the output and the lines on standard error.
+"""
+import json
+import os
+import subprocess
+import sys
+import tempfile
+
+TOP = os.path.dirname(os.path.dirname(os.path.abspath(__file__)))
+PROGRAM = os.path.join(TOP, "crates", "silkit", "out", "silkit")
+
+# Each list of services with the key of what its entries speak of.
+LISTS = [
+    ("CanControllers", "Network"),
+    ("EthernetControllers", "Network"),
+    ("LinControllers", "Network"),
+    ("DataPublishers", "Topic"),
+    ("DataSubscribers", "Topic"),
+    ("RpcServers", "FunctionName"),
+    ("RpcClients", "FunctionName"),
+]
+LONG = "n" * 65
+# What stands where a text is wanted, and isn't one; and what is no name, and no address.
+NO_TEXTS = [1, True, None, ["A"], {"A": 1}]
+NO_NAMES = ["", LONG, "a\nb", "a\u007f"]
+NO_ADDRESSES = [
+    "",
+    "localhost:8500",
+    "tcp://localhost:8500",
+    "silkit://:8500",
+    "silkit://localhost",
+    "silkit://localhost:",
+    "silkit://localhost:0",
+    "silkit://localhost:65536",
+    "silkit://local_host:8500",
+    "silkit://localhost:8500/",
+    "silkit://" + "h" * 60 + ":1",
+]
+# Numbers that aren't whole as JSON is read here, and whole ones out of range.
+NO_NUMBERS = ["1.0", "1e3", "-0", "-1", "18446744073709551616", '"1"', "null", "true", "[]"]
+
+
+def cases():
+    """Texts with the path and the rule that they break."""
+    yield "[", "", "not JSON"
+    yield "", "", "not JSON"
+    yield '{"A":1e400}', "", "not JSON"
+    yield '{"A":"\\ud800"}', "", "not JSON"
+    yield "[" * 200 + "]" * 200, "", "not JSON"
+    yield b'{"ParticipantName":"\xff"}', "", "not JSON"
+    for root in ("1", "null", '"A"', "[]", "true"):
+        yield root, "", "wrong type"
+    for value in NO_TEXTS:
+        yield {"ParticipantName": value}, "/ParticipantName", "wrong type"
+        yield {"Middleware": {"RegistryUri": value}}, "/Middleware/RegistryUri", "wrong type"
+    for value in NO_NAMES:
+        yield {"ParticipantName": value}, "/ParticipantName", "bad value"
+    for value in NO_ADDRESSES:
+        yield {"Middleware": {"RegistryUri": value}}, "/Middleware/RegistryUri", "bad value"
+    for value in (1, "A", None, []):
+        yield {"Middleware": value}, "/Middleware", "wrong type"
+    for key, target in LISTS:
+        at = f"/{key}"
+        for value in (1, "A", None, {}):
+            yield {key: value}, at, "wrong type"
+        yield {key: [{"Name": f"n{i}"} for i in range(65)]}, at, "bad value"
+        # The length is judged before any entry.
+        yield {key: [1] * 65}, at, "bad value"
+        for value in (1, "A", None, []):
+            yield {key: [{"Name": "a"}, value]}, f"{at}/1", "wrong type"
+        yield {key: [{target: "t"}]}, f"{at}/0/Name", "missing"
+        for value in NO_TEXTS:
+            yield {key: [{"Name": value}]}, f"{at}/0/Name", "wrong type"
+            yield {key: [{"Name": "a", target: value}]}, f"{at}/0/{target}", "wrong type"
+        for value in NO_NAMES:
+            yield {key: [{"Name": value}]}, f"{at}/0/Name", "bad value"
+            yield {key: [{"Name": "a", target: value}]}, f"{at}/0/{target}", "bad value"
+        # At the later of two, before its other keys.
+        yield {key: [{"Name": "a"}, {"Name": "b"}, {"Name": "a", target: 1}]}, f"{at}/2/Name", "double"
+        # The name comes before the rest of an entry, and an earlier entry before a later one.
+        yield {key: [{"Name": 1, target: 1}]}, f"{at}/0/Name", "wrong type"
+        yield {key: [{"Name": "a", target: 1}, {}]}, f"{at}/0/{target}", "wrong type"
+    for text in NO_NUMBERS:
+        entry = '{"DataPublishers":[{"Name":"a","History":%s}]}' % text
+        yield entry, "/DataPublishers/0/History", "wrong type"
+    for number in ("2", "18446744073709551615"):
+        entry = '{"DataPublishers":[{"Name":"a","History":%s}]}' % number
+        yield entry, "/DataPublishers/0/History", "bad value"
+    # The order of the table: the name of the participant first, then the lists, then the middleware.
+    for earlier, later in zip(LISTS, LISTS[1:]):
+        yield {later[0]: 1, earlier[0]: 1}, f"/{earlier[0]}", "wrong type"
+        yield {"ParticipantName": 1, earlier[0]: 1}, "/ParticipantName", "wrong type"
+        yield {"Middleware": 1, later[0]: 1}, f"/{later[0]}", "wrong type"
+
+
+def sound():
+    """Configurations with their canonical text and the paths of what isn't used."""
+    yield "{}", "{}", []
+    yield ' {"b":1, "a/~c" : [1e9] ,"Middleware":{}} ', "{}", ["/a~1~0c", "/b"]
+    # Of two equal keys the last counts.
+    yield '{"ParticipantName":"A","ParticipantName":"B"}', '{"ParticipantName":"B"}', []
+    yield {"Middleware": {"RegistryUri": "silkit://a-1.b:65535", "x": 1}}, '{"Middleware":{"RegistryUri":"silkit://a-1.b:65535"}}', ["/Middleware/x"]
+    for history in (0, 1):
+        text = '{"DataPublishers":[{"History":%d,"Name":"a","Topic":"t"}]}' % history
+        yield text, text, []
+    for key, target in LISTS:
+        yield {key: []}, "{}", []
+        text = '{"%s":[{"Name":"a"},{"Name":"b"}]}' % key
+        value = {key: [{"Name": "a", "y": 0, "x": 0}, {"Name": "b"}], "Z": 0}
+        yield value, text, ["/Z", f"/{key}/0/x", f"/{key}/0/y"]
+        # Of publishers alone there is a history.
+        if key != "DataPublishers":
+            yield {key: [{"Name": "a", "History": 1}]}, '{"%s":[{"Name":"a"}]}' % key, [f"/{key}/0/History"]
+        entry = dict(sorted([("Name", "a"), (target, "ä\"\\")]))
+        wanted = json.dumps({key: [entry]}, separators=(",", ":"), ensure_ascii=False)
+        yield {key: [entry]}, wanted, []
+        names = [{"Name": f"n{i}"} for i in range(64)]
+        yield {key: names}, json.dumps({key: names}, separators=(",", ":")), []
+
+
+def as_bytes(value):
+    if isinstance(value, bytes):
+        return value
+    return (value if isinstance(value, str) else json.dumps(value)).encode()
+
+
+def main():
+    wanted = [(as_bytes(value), 1, "", f"silkit: {path}: {rule}\n") for value, path, rule in cases()]
+    for value, text, unused in sound():
+        lines = "".join(f"warning: {path}: not used\n" for path in unused)
+        wanted.append((as_bytes(value), 0, text + "\n", lines))
+    with tempfile.TemporaryDirectory() as room:
+        path = os.path.join(room, "a.json")
+        for content, status, output, said in wanted:
+            with open(path, "wb") as file:
+                file.write(content)
+            run = subprocess.run([PROGRAM, "check", path], capture_output=True)
+            got = (run.returncode, run.stdout.decode(), run.stderr.decode())
+            if got != (status, output, said):
+                print(f"configuration {content!r}\nwanted {(status, output, said)}\ngot    {got}")
+                return 1
+    print(f"{len(wanted)} configurations: as the format says")
+    return 0
+
+
+if __name__ == "__main__":
+    sys.exit(main())
