@@ -54,3 +54,6 @@ fn main(rt: HostRuntime) -> ExitCode {
     };
     ExitCode::from(silkit(rt.alloc(), &words, &mut host))
 }
+
+#[cfg(test)]
+mod tests;

@@ -644,6 +644,20 @@ fn a_made_workflow(rt: HostRuntime) -> Result<(), Fail> {
     expect_spelling(&rt, &Message::workflow(Names::new(names)), FRAMES[6].0)
 }
 
+/// One byte more than a payload may have, all of it there.
+#[test]
+fn a_payload_of_4097_bytes(rt: HostRuntime) -> Result<(), Fail> {
+    let front =
+        b"\x19\x10\x00\x00\x01\x0d\x00\x00\x00\x00\x00\x00\x00\x00\x00\x00\x00\x00\x00\x00\x00\x00\x00\x00\x00\x00\x01\x10";
+    let bytes = whole(rt.alloc(), front, 4097)?;
+    let fault = Some(WireFault {
+        at: 26,
+        what: What::BadField,
+    });
+    assert!(rt; read(rt.alloc(), &[&bytes])? == (0, 0, fault));
+    Ok(())
+}
+
 #[test]
 fn faults_of_each_kind(rt: HostRuntime) -> Result<(), Fail> {
     let alloc = rt.alloc();
