@@ -6,7 +6,7 @@ use Rattle.std.proofs.lemmas.Bool.Decides.{nat_tests}
 use Rattle.std.proofs.lemmas.Str.{IsUtf8-from_ascii, IsUtf8-nil}
 use Rattle.sk_base.specs.Ranges.{is_time, is_text, is_name}
 use Rattle.sk_base.proofs.TextLaws.{is_text_from, is_name_from}
-use Rattle.sk_base.specs.Talk.{Said, NoneTaken, taken}
+use Rattle.sk_base.specs.Talk.{Said, NoneTaken}
 use Rattle.sk_msg.specs.Rules.{is_step_size, is_message}
 use Rattle.sk_msg.specs.declared.role.Role.TheVariants.{Participant}
 use Rattle.sk_msg.specs.declared.content.Content.{Content}

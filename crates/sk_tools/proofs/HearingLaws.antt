@@ -5,7 +5,6 @@ use Rattle.std.proofs.lemmas.Bool.Decides.{nat_tests}
 use Rattle.std.proofs.lemmas.List.Folds.{list_any-append}
 use Rattle.std.specs.List.{list_any}
 use Rattle.std.specs.Option.{is_some}
-use Rattle.sk_msg.specs.Rules.{is_step_size}
 use Rattle.sk_msg.specs.declared.role.Role.{Role}
 use Rattle.sk_msg.specs.declared.content.Content.{Content}
 use Rattle.sk_msg.specs.declared.content.Content.TheVariants.{Hello, Leave, NextStep}
@@ -14,7 +13,7 @@ use Rattle.sk_wire.specs.Stream.{Parts}
 use Rattle.sk_wire.specs.Parts.{messages, fault}
 use Rattle.sk_tools.specs.Roles.{is_synchronised}
 use Rattle.sk_tools.specs.Frames.{all_steps}
-use Rattle.sk_tools.specs.Pipe.{is_passed_over, is_hello, is_free_hello, is_leave, announces, is_out_of_order, orderly, end_among, or_fault, heard, end_of, may_begin, steps_begun}
+use Rattle.sk_tools.specs.Pipe.{is_passed_over, is_hello, is_free_hello, is_leave, announces, is_out_of_order, orderly, end_among, or_fault, heard, end_of, steps_begun}
 use Rattle.sk_tools.specs.Hearing.{IsPresent, Announced, Stands, Hears, IsHeardAs, HearsPiece, KeepsPlan}
 use Rattle.sk_tools.specs.declared.peer.Over.{Over}
 use Rattle.sk_tools.specs.declared.peer.Over.TheVariants.{Left, Broken}

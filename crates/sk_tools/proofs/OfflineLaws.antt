@@ -1,5 +1,5 @@
 -- From how a check ended to the number that it answers, and from what was said piece by piece to lines.
-use Rattle.std.proofs.Common.{◌≡◌, ◌≢◌, ◌⊎◌, inl, inr, ℕ, ◌<◌, ◌≤◌, ◌-◌, ◌^◌, List, [], ◌∷◌, ◌++◌, length, Bool, true, false, Option, Some, None, refl, sym, ap, ◌∙◌, arith, append_assoc}
+use Rattle.std.proofs.Common.{◌≡◌, ◌≢◌, ℕ, ◌<◌, ◌≤◌, ◌^◌, List, [], ◌++◌, length, Bool, Option, Some, None, refl, sym, ap, ◌∙◌, arith, append_assoc}
 use Rattle.std.proofs.lemmas.List.{append-nil}
 use Rattle.sk_base.specs.Talk.{Rose}
 use Rattle.std.specs.Prelude.{IsSomeAnd}
@@ -8,7 +8,7 @@ use Rattle.sk_config.specs.Reading.{reading}
 use Rattle.sk_tools.specs.Outside.{HasNoFault, Says, Explains, IsContent}
 use Rattle.sk_tools.specs.declared.reading.Unread.{Unread}
 use Rattle.sk_tools.specs.declared.reading.Unread.TheVariants as unread
-use Rattle.sk_tools.specs.Check.{Found, NoFile, Oversized, found_in, found_by, MayEnd, EndsUnread, Leaves, said_of, said_unread, is_sound}
+use Rattle.sk_tools.specs.Check.{Found, NoFile, Oversized, found_in, found_by, MayEnd, EndsUnread, Leaves, said_of, said_unread}
 use Rattle.sk_tools.specs.Offline.{checked_number, CountsReads, CountsWrites, IsChecked, IsOutput, IsOffline, said_by}
 use Rattle.sk_tools.specs.declared.checked.Checked.{Checked}
 use Rattle.sk_tools.specs.declared.checked.Checked.TheVariants.{Done, Refused, ReadFault, WriteFault, Memory}

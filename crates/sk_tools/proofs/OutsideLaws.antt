@@ -1,13 +1,12 @@
 -- Reading piece by piece, and writing piece by piece.
-use Rattle.std.proofs.Common.{◌≡◌, ℕ, ◌<◌, ◌≤◌, ◌+◌, ◌-◌, ◌^◌, List, [], ◌∷◌, ◌++◌, get_or, length, take, drop, ◌≢◌, Option, Some, None, IsSome, Result, Ok, Err, MatchResult, refl, sym, ap, ◌∙◌, arith, append_assoc}
+use Rattle.std.proofs.Common.{◌≡◌, ℕ, ◌<◌, ◌≤◌, ◌+◌, List, [], ◌∷◌, ◌++◌, get_or, length, take, drop, ◌≢◌, Option, Some, None, IsSome, Result, Ok, Err, MatchResult, refl, sym, ap, ◌∙◌, arith, append_assoc}
 use Rattle.std.proofs.lemmas.List.{append-nil, length-append, length-take-le}
 use Rattle.std.proofs.lemmas.Grind.{flat_map-append}
 use Rattle.std.proofs.lemmas.List.{take_more}
 use Rattle.std.specs.List.{flat_map}
-use Rattle.std.proofs.Math.Seq.{take-add, take-length, drop-append_seam}
+use Rattle.std.proofs.Math.Seq.{take-add, take-length}
 use Rattle.std.proofs.lemmas.List.{take-append-drop}
 use Rattle.sk_base.specs.Reading.{ReadsFrom}
-use Rattle.sk_tools.specs.Run.{IsPrefixOf}
 use Rattle.sk_tools.specs.Outside.{IsReadTo, IsContent, Explains, IsPartWritten}
 use Rattle.sk_tools.specs.declared.reading.Unread.{Unread}
 use Rattle.sk_tools.specs.declared.reading.Unread.TheVariants.{Absent}

@@ -1,9 +1,9 @@
 -- What the status of a run says.
-use Rattle.std.proofs.Common.{◌≡◌, ◌≤◌, ◌⊎◌, ℕ, List, [], ◌++◌, length, refl, sym, ap, ◌∙◌, subst, inl, inr, arith, append-nil}
+use Rattle.std.proofs.Common.{◌≡◌, ◌⊎◌, List, [], ◌++◌, length, refl, sym, ap, ◌∙◌, inl, inr, arith, append-nil}
 use Rattle.std.proofs.lemmas.List.{drop_at}
 use Rattle.std.proofs.Math.Seq.{take-length}
 use Rattle.sk_base.specs.Talk.{Said}
-use Rattle.sk_tools.specs.Run.{Cause, IsFull, IsTired, waiting}
+use Rattle.sk_tools.specs.Run.{Cause, IsFull, IsTired}
 use Rattle.sk_tools.specs.Top.{status_number, said_since}
 use Rattle.sk_tools.specs.declared.status.Status.{Status}
 use Rattle.sk_tools.specs.declared.status.Status.TheVariants as status

@@ -1,5 +1,5 @@
 -- What `check` answers and writes, by what its file holds.
-use Rattle.std.specs.Prelude.{◌≡◌, ◌^◌, ◌++◌, ℕ, Bool, true, false, nat_lt, Option, Some, None, Result, Ok, Err, List, [], ◌∷◌, length, codes, if◌then◌else◌}
+use Rattle.std.specs.Prelude.{◌≡◌, ◌^◌, ◌++◌, ℕ, Bool, true, false, nat_lt, Option, Some, None, Result, Ok, Err, List, [], length, codes, if◌then◌else◌}
 use Rattle.std.specs.List.{flat_map}
 use Rattle.sk_config.specs.declared.config.ConfigRead.{ConfigRead}
 use Rattle.sk_config.specs.declared.fault.ConfigFault.{ConfigFault}

@@ -1,5 +1,5 @@
 -- What a Peer knows of the messages that it heard.
-use Rattle.std.specs.Prelude.{◌≡◌, ℕ, Bool, true, false, nat_le, Option, Some, None, List, [], ◌∷◌}
+use Rattle.std.specs.Prelude.{◌≡◌, ℕ, Bool, true, false, nat_le, Option, Some, None, List, []}
 use Rattle.std.specs.List.{list_any}
 use Rattle.sk_msg.specs.declared.content.Content.{Content}
 use Rattle.sk_tools.specs.Pipe.{is_hello, is_free_hello, is_leave, announces, orderly, end_among, or_fault, steps_begun}

@@ -1,5 +1,5 @@
 -- Laws of the definitions, which the functions of laws.rt carry.
-use Rattle.std.specs.Prelude.{◌≡◌, ◌≤◌, ℕ, true, false, List, [], ◌∷◌, ◌++◌}
+use Rattle.std.specs.Prelude.{◌≤◌, ℕ, true, false, List, [], ◌∷◌, ◌++◌}
 use Rattle.sk_base.specs.Talk.{Said, Taken, Given, NoneTaken}
 use Rattle.sk_msg.specs.declared.role.Role.TheVariants.{Participant}
 use Rattle.sk_msg.specs.declared.content.Content.TheVariants.{Hello, Leave, NextStep}

@@ -1,10 +1,8 @@
 -- What the commands on files answer.
-use Rattle.std.specs.Prelude.{◌≡◌, ◌≢◌, ◌⊎◌, ◌++◌, ℕ, true, false, ◌==◌, Option, Some, None, List, [], ◌∷◌, codes, IsTrue, if◌then◌else◌}
+use Rattle.std.specs.Prelude.{◌≡◌, ◌≢◌, ◌++◌, ℕ, true, false, ◌==◌, List, [], ◌∷◌, codes, IsTrue, if◌then◌else◌}
 use Rattle.std.specs.List.{list_any}
 use Rattle.sk_base.specs.Talk.{Rose}
-use Rattle.sk_tools.specs.Words.{file_to_check}
-use Rattle.sk_tools.specs.Top.{IsUsage}
-use Rattle.sk_tools.specs.Outside.{HasNoFault, IsPartWritten}
+use Rattle.sk_tools.specs.Outside.{IsPartWritten}
 use Rattle.sk_tools.specs.Check.{Found, is_sound, remarks, complaint, line}
 use Rattle.sk_tools.specs.declared.words.Refused as words
 use Rattle.sk_tools.specs.declared.words.Refused.TheVariants as refused

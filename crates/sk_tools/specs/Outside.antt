@@ -1,7 +1,6 @@
 -- What reading a whole file and writing a whole text leave of the outside.
-use Rattle.std.specs.Prelude.{◌≡◌, ◌≢◌, ◌≤◌, ◌<◌, ◌^◌, ◌-◌, ◌++◌, ℕ, Bool, true, Option, Some, None, IsSomeAnd, Result, MatchResult, List, length, take}
+use Rattle.std.specs.Prelude.{◌≡◌, ◌≤◌, ◌<◌, ◌^◌, ◌-◌, ◌++◌, ℕ, Bool, true, Option, Some, None, IsSomeAnd, List, length, take}
 use Rattle.sk_base.specs.Talk.{Rose}
-use Rattle.sk_base.specs.declared.fault.Failed.{Failed}
 use Rattle.sk_tools.specs.Run.{IsPrefixOf}
 use Rattle.sk_tools.specs.declared.reading.Unread.{Unread}
 use Rattle.sk_tools.specs.declared.reading.Unread.TheVariants.{Absent, TooLong, Fault, Memory}

@@ -1,5 +1,5 @@
 -- What the reader of the words answers.
-use Rattle.std.specs.Prelude.{◌≡◌, ℕ, List, Option, Some, None}
+use Rattle.std.specs.Prelude.{◌≡◌, Option, Some, None}
 use Rattle.sk_tools.specs.Words.{Job}
 use Rattle.sk_tools.specs.declared.plan.Plan.{Plan}
 use Rattle.sk_tools.specs.declared.words.Refused.{Refused}

@@ -1,5 +1,5 @@
 -- The talk of a run of `pipe` on its link, and how the run ends.
-use Rattle.std.specs.Prelude.{◌≡◌, ◌≤◌, ◌<◌, ◌^◌, ◌⊎◌, ℕ, Bool, true, false, Option, Some, None, List, [], ◌∷◌, ◌++◌, length, take, reverse}
+use Rattle.std.specs.Prelude.{◌≡◌, ◌≤◌, ◌<◌, ◌^◌, ◌⊎◌, ℕ, Bool, true, false, Some, None, List, [], ◌∷◌, ◌++◌, length, take, reverse}
 use Rattle.std.specs.List.{list_any, prefix_len, slice_get}
 use Rattle.sk_base.specs.Talk.{Said, Taken, Given, NoneTaken, NoneGiven, Ended, taken, given}
 use Rattle.sk_tools.specs.Pipe.{end_of, pipe_out}

@@ -1,5 +1,5 @@
 -- What the top call answers.
-use Rattle.std.specs.Prelude.{◌≡◌, ◌⊎◌, ◌++◌, ℕ, Bool, true, Option, Some, None, List, length, drop}
+use Rattle.std.specs.Prelude.{◌≡◌, ◌⊎◌, ℕ, Bool, true, Option, Some, None, List, length, drop}
 use Rattle.sk_base.specs.Talk.{Said}
 use Rattle.sk_tools.specs.Words.{Job, job_of}
 use Rattle.sk_tools.specs.declared.status.Status.{Status}

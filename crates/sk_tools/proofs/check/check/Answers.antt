@@ -1,7 +1,6 @@
-use Rattle.std.proofs.Common.{◌≡◌, ◌∙◌, ap, sym, subst, List, ℕ, true}
+use Rattle.std.proofs.Common.{◌≡◌, ◌∙◌, ap, sym}
 use Rattle.sk_config.specs.Reading.{reading}
-use Rattle.sk_tools.specs.Outside.{Says}
-use Rattle.sk_tools.specs.Check.{Found, found_in, found_by, MayEnd, Leaves, checked_text, said_of}
+use Rattle.sk_tools.specs.Check.{found_in, found_by}
 use Rattle.sk_tools.proofs.OfflineLaws.{found_content, ends_unread, said_unread_same}
 use Rattle.sk_tools.proofs.check.check.Goals as goal
 

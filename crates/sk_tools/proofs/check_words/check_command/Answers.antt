@@ -1,7 +1,6 @@
 use Rattle.std.proofs.Common.{◌≡◌, ◌∙◌, ap, ap₂}
 use Rattle.clap.specs.Simple.{app_of_fields}
-use Rattle.clap.specs.Words.{app_of, new_app, with_rule}
-use Rattle.std.specs.Prelude.{codes}
+use Rattle.clap.specs.Words.{app_of, with_rule}
 use Rattle.sk_tools.specs.Words.{check_app}
 use Rattle.sk_tools.proofs.check_words.check_command.Goals as goal
 

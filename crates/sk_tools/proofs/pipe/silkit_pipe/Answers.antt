@@ -1,4 +1,4 @@
-use Rattle.std.proofs.Common.{◌≡◌, ◌++◌, ◌⊎◌, ℕ, List, [], refl, sym, ap, ◌∙◌, subst}
+use Rattle.std.proofs.Common.{◌≡◌, ◌⊎◌, List, refl, sym, ap, ◌∙◌, subst}
 use Rattle.sk_base.specs.Talk.{Said}
 use Rattle.sk_tools.specs.Run.{IsInStep, IsFull, IsTired}
 use Rattle.sk_tools.specs.Top.{said_since}

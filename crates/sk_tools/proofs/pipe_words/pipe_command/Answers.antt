@@ -1,4 +1,4 @@
-use Rattle.std.proofs.Common.{◌≡◌, ◌∙◌, refl, ap₂, rules}
+use Rattle.std.proofs.Common.{◌∙◌, ap₂}
 use Rattle.clap.specs.Words.{with_rule}
 use Rattle.sk_tools.specs.Words.{pipe_app}
 use Rattle.sk_tools.proofs.pipe_words.pipe_command.Goals as goal

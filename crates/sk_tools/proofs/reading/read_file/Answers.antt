@@ -1,4 +1,4 @@
-use Rattle.std.proofs.Common.{rules, ◌≡◌, ◌∙◌, ap, sym, subst, ℕ, List, true, Option, Some, IsSome}
+use Rattle.std.proofs.Common.{◌≡◌, ◌∙◌, ap, true}
 use Rattle.sk_tools.proofs.OutsideLaws.{by_content}
 use Rattle.sk_tools.proofs.reading.read_file.Goals as goal
 

@@ -1,7 +1,6 @@
-use Rattle.std.proofs.Common.{◌≡◌, ◌⊎◌, ◌∙◌, inl, inr, refl, ap, sym, List, [], ◌∷◌, length, true, false, ℕ, Bool, arith, rules}
+use Rattle.std.proofs.Common.{◌≡◌, ◌∙◌, inl, inr, refl, [], ◌∷◌, length, true, false, Bool, rules}
 use Rattle.std.specs.Prelude.{◌&&◌, ◌==◌}
 use Rattle.clap.specs.Kinds.{Kinds, IsAmong}
-use Rattle.clap.specs.Words.{is_simple, is_simple_and_free, App}
 use Rattle.clap.specs.declared.error.kind.ErrorKind.{ErrorKind}
 use Rattle.sk_tools.specs.Words.{takes_words, rows_read}
 use Rattle.sk_tools.proofs.words.parse.Goals as goal

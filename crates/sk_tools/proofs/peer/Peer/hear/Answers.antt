@@ -1,7 +1,7 @@
 use Rattle.std.proofs.Common.{◌≡◌, ◌<◌, ◌+◌, ◌++◌, ◌∷◌, [], ℕ, List, length, ◌∙◌, ap, sym, subst, take, drop, get_or}
 use Rattle.std.proofs.lemmas.List.{take_more, take-append-drop}
 use Rattle.sk_msg.specs.declared.content.Content.{Content}
-use Rattle.sk_tools.specs.Hearing.{Hears, IsHeardAs}
+use Rattle.sk_tools.specs.Hearing.{IsHeardAs}
 use Rattle.sk_tools.proofs.HearingLaws.{heard_step, heard_last, NotesTo, not_some, some_of}
 use Rattle.sk_tools.proofs.peer.Peer.hear.Goals as goal
 

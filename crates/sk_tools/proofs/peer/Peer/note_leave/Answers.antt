@@ -1,6 +1,6 @@
-use Rattle.std.proofs.Common.{◌≡◌, ◌∷◌, [], true, false, refl, sym, ◌∙◌, subst}
+use Rattle.std.proofs.Common.{true, false, refl, sym, ◌∙◌, subst}
 use Rattle.sk_msg.specs.declared.content.Content.TheVariants.{Leave}
-use Rattle.sk_tools.specs.Hearing.{Stands, IsPresent, Announced}
+use Rattle.sk_tools.specs.Hearing.{Stands, IsPresent}
 use Rattle.sk_tools.specs.declared.peer.Standing.TheVariants.{Bound}
 use Rattle.sk_tools.proofs.CountLaws.{at_least_one}
 use Rattle.sk_tools.proofs.HearingLaws.{heard_leave, begun-left, leave-good}

@@ -1,4 +1,4 @@
-use Rattle.std.proofs.Common.{◌≡◌, ◌+◌, ◌/◌, ℕ, Option, None, Some, min, refl, ap, subst, ◌∙◌, arith}
+use Rattle.std.proofs.Common.{◌+◌, ◌/◌, ℕ, Option, None, Some, min, refl, ap, subst, ◌∙◌, arith}
 use Rattle.sk_msg.specs.declared.content.Content.TheVariants.{NextStep}
 use Rattle.sk_tools.specs.Hearing.{Stands}
 use Rattle.sk_tools.specs.declared.peer.Standing.TheVariants.{Bound}

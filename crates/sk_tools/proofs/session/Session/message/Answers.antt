@@ -2,7 +2,7 @@ use Rattle.std.proofs.Common.{◌≡◌, ◌*◌, ◌^◌, ℕ, Bool, true, fals
 use Rattle.std.proofs.lemmas.Bool.{le-leb}
 use Rattle.std.proofs.lemmas.Bool.Decides.{nat_tests}
 use Rattle.sk_base.specs.Ranges.{is_time}
-use Rattle.sk_msg.specs.declared.content.Content.TheVariants.{NextStep, Leave}
+use Rattle.sk_msg.specs.declared.content.Content.TheVariants.{NextStep}
 use Rattle.sk_wire.specs.Grammar.{spelling}
 use Rattle.sk_tools.specs.Pipe.{next_step, leave}
 use Rattle.sk_tools.proofs.session.Session.message.Goals as goal

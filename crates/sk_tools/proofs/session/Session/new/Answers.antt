@@ -1,8 +1,6 @@
-use Rattle.std.proofs.Common.{◌≡◌, ◌++◌, [], None, refl, sym, ◌∙◌, ap, subst}
+use Rattle.std.proofs.Common.{◌≡◌, [], None, refl, sym, ◌∙◌, ap}
 use Rattle.sk_wire.specs.Stream.{Parts}
-use Rattle.sk_tools.specs.Pipe.{heard, end_of, orderly, end_among, or_fault, pipe_out}
-use Rattle.sk_tools.specs.Run.{IsInStep}
-use Rattle.sk_tools.specs.Hearing.{Hears}
+use Rattle.sk_tools.specs.Pipe.{heard, end_of, orderly, end_among, or_fault}
 use Rattle.std.specs.Prelude.{is_some}
 use Rattle.sk_tools.proofs.PieceLaws.{parts-nothing}
 use Rattle.sk_tools.proofs.SessionLaws.{due_more}
