@@ -2,7 +2,8 @@
 # Times the proved program `silkit pipe` on streams of 1, 10 and 100 MB, in seconds per MB.
 cd "$(dirname "$0")/.." || exit 1
 program=crates/silkit/out/silkit
-[ -x "$program" ] || { echo "build the program first, by the first command of the README"; exit 1; }
+# Builds the program where it isn't there or is old.
+(cd crates/silkit && rt run -- pipe A 1 0 </dev/null >/dev/null 2>&1)
 room=$(mktemp -d) || exit 1
 trap 'rm -rf "$room"' EXIT
 python3 - "$room" <<'END'

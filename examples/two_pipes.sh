@@ -4,7 +4,8 @@
 cd "$(dirname "$0")/.." || exit 1
 step_a=${1:-1000000} step_b=${2:-1000000} duration=${3:-3000000}
 program=crates/silkit/out/silkit
-[ -x "$program" ] || (cd crates/silkit && rt run -- pipe A 1 0 </dev/null >/dev/null 2>&1)
+# Builds the program where it isn't there or is old.
+(cd crates/silkit && rt run -- pipe A 1 0 </dev/null >/dev/null 2>&1)
 room=$(mktemp -d) || exit 1
 trap 'rm -rf "$room"' EXIT
 mkfifo "$room/to_a" "$room/to_b" || exit 1

@@ -1,9 +1,11 @@
 #!/usr/bin/env python3
-"""Runs the proved program `silkit check` on a table of configurations, one case per key and rule.
+"""Runs the proved program `silkit check` on a table of configurations, one case per key and rule, and
+the program on words that have no reading.
 
 usage: configurations.py
 
-What is wanted is written from docs/FORMATS.md: the status, the output and the lines on standard error.
+What is wanted is written from docs/FORMATS.md and the README: the status, the output and the lines on
+standard error.
 """
 import json
 import os
@@ -123,6 +125,18 @@ def sound():
         yield {key: names}, json.dumps({key: names}, separators=(",", ":")), []
 
 
+# Words without a reading, with what is said of them. Where the first is `pipe`, nothing is.
+WORDS = [
+    ([], "silkit: usage\n"),
+    (["Check", "a.json"], "silkit: usage\n"),
+    ([b"\xff"], "silkit: usage\n"),
+    (["check", b"a\xff.json"], "silkit: usage\n"),
+    (["pipe", b"\xff", "1", "1"], ""),
+    (["pipe", "A", "0", "1"], ""),
+    (["pipe", "--help"], ""),
+]
+
+
 def as_bytes(value):
     if isinstance(value, bytes):
         return value
@@ -144,7 +158,13 @@ def main():
             if got != (status, output, said):
                 print(f"configuration {content!r}\nwanted {(status, output, said)}\ngot    {got}")
                 return 1
-    print(f"{len(wanted)} configurations: as the format says")
+    for words, said in WORDS:
+        run = subprocess.run([PROGRAM, *words], capture_output=True, stdin=subprocess.DEVNULL)
+        got = (run.returncode, run.stdout.decode(), run.stderr.decode())
+        if got != (2, "", said):
+            print(f"words {words!r}\nwanted {(2, '', said)}\ngot    {got}")
+            return 1
+    print(f"{len(wanted)} configurations, {len(WORDS)} rows of words: as the format says")
     return 0
 
 

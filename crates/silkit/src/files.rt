@@ -1,8 +1,12 @@
 //! The files of the host.
 
-use crate::count::{RETRIES, one_more};
+ghost use Rattle.std.specs.Prelude.{◌≡◌};
+ghost use Rattle.sk_base.specs.Talk.{Rose};
+
+use crate::tries::MOST_TRIES;
 use log::{Log, warn};
-use sk_base::{Failed, Files, Opened};
+use sk_base::{Failed, Files, Opened, one_more};
+use std::fmt::Display;
 use std::fs::File;
 use std::io::{ErrorKind, Read};
 
@@ -16,6 +20,7 @@ pub struct OsFiles<'a, R: std::fs::Files, L: Log + Drop> {
 }
 
 impl<'a, R: std::fs::Files, L: Log + Drop> OsFiles<'a, R, L> {
+    /// The files of this host, none of them open and no fault so far, with the log for faults.
     pub fn new(rt: &'a R, log: L) -> OsFiles<'a, R, L> {
         OsFiles {
             rt,
@@ -23,6 +28,16 @@ impl<'a, R: std::fs::Files, L: Log + Drop> OsFiles<'a, R, L> {
             log,
             faults: 0,
         }
+    }
+
+    /// Counts a fault, and notes of what and why.
+    fn fail(&mut self, what: &str, why: impl Display + Drop) -> Failed
+        ensures rose { Rose self.old.faults self.new.faults }
+        ensures opened { self.new.opened ≡ self.old.opened }
+    {
+        warn!(self.log; "{what}: {why}");
+        self.faults = one_more(self.faults);
+        Failed
     }
 }
 
@@ -44,28 +59,25 @@ impl<R: std::fs::Files, L: Log + Drop> Files for OsFiles<'_, R, L> {
                 if error.kind() == ErrorKind::NotFound {
                     return Ok(Opened::Absent);
                 }
-                warn!(self.log; "{path}: {error}");
-                self.faults = one_more(self.faults);
-                Err(Failed)
+                Err(self.fail(path, error))
             }
         }
     }
 
     fn read(&mut self, buf: &mut [u8]) -> Result<usize, Failed> {
-        if let Some(file) = &mut self.opened {
-            for _ in 0..RETRIES {
-                match file.read(buf) {
-                    Ok(count) => return Ok(count),
-                    Err(error) => {
-                        if error.kind() != ErrorKind::Interrupted {
-                            warn!(self.log; "read: {error}");
-                            break;
-                        }
+        let Some(file) = &mut self.opened else {
+            return Err(self.fail("read", "no file is open"));
+        };
+        for _ in 0..MOST_TRIES {
+            match file.read(buf) {
+                Ok(count) => return Ok(count),
+                Err(error) => {
+                    if error.kind() != ErrorKind::Interrupted {
+                        return Err(self.fail("read", error));
                     }
                 }
             }
         }
-        self.faults = one_more(self.faults);
-        Err(Failed)
+        Err(self.fail("read", "interrupted"))
     }
 }

@@ -1,14 +1,15 @@
 //! The program `silkit`: the outside, handed to the one call that does all the rest.
 //!
-//! The adapters here are the trusted edge. They note each fault of the real thing by `log`, which the
-//! shipped program has switched off.
+//! The adapters here are the trusted edge. They note each fault of the real thing by `log`, which
+//! the shipped program has switched off.
 #![tactic(auto)]
 
-mod count;
 mod files;
 mod idle;
 mod link;
 mod sink;
+mod tries;
+mod words;
 
 use files::OsFiles;
 use idle::NoRest;
@@ -17,32 +18,20 @@ use log::sink::Discard;
 use sink::StdSink;
 use sk_base::memory::MemNet;
 use sk_tools::{Host, silkit};
-use std::alloc::AllocError;
-use std::env;
-use std::io::ErrorKind;
+use std::io::Write;
 use std::process::ExitCode;
-
-/// The status of words that have no reading.
-const USAGE: u8 = 2;
-
-/// The status of want of memory.
-const MEMORY: u8 = 5;
+use words::{is_pipe, read_words};
 
 fn main(rt: HostRuntime) -> ExitCode {
-    let words = match env::args(&rt) {
+    let words = match read_words(&rt) {
         Ok(words) => words,
-        Err(error) => {
-            // A word that isn't UTF-8 has no reading.
-            return ExitCode::from(if error.kind() == ErrorKind::OutOfMemory {
-                MEMORY
-            } else {
-                USAGE
-            });
+        Err(fault) => {
+            if !is_pipe(&rt) {
+                // A fault on standard error changes no status.
+                let _ = rt.stderr().write_all(fault.line().as_bytes());
+            }
+            return ExitCode::from(fault.status());
         }
-    };
-    let words: Result<Vec<String>, AllocError> = words.skip(1).collect(rt.alloc());
-    let Ok(words) = words else {
-        return ExitCode::from(MEMORY);
     };
     let mut host = Host {
         files: OsFiles::new(&rt, Discard),

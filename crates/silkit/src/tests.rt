@@ -1,7 +1,10 @@
 use crate::files::OsFiles;
 use crate::sink::StdSink;
+use crate::words::{NoWords, is_pipe, read_words};
 use log::sink::Memory;
 use sk_base::{Failed, Files, Opened, Sink};
+use std::env::{Env, FillError};
+use std::io::{ErrorKind, Write};
 use std::process::Abort;
 use std::test::Fail;
 
@@ -29,11 +32,106 @@ fn files_of_the_host(rt: HostRuntime) -> Result<(), Fail> {
 #[test]
 fn a_sink_on_a_buffer(rt: HostRuntime) -> Result<(), Fail> {
     let lines = Memory::new(rt.alloc());
-    let mut sink = StdSink::new(Vec::new(rt.alloc()), &lines);
+    let mut bytes: Vec<u8> = Vec::new(rt.alloc());
+    let mut sink = StdSink::new(&mut bytes, &lines);
     assert!(rt; sink.write(b"abc") == Ok(3));
     assert!(rt; sink.write(b"") == Ok(0));
+    assert!(rt; sink.write(b"de") == Ok(2));
     assert!(rt; sink.flush() == Ok(()));
     drop(sink);
+    assert_eq!(rt; bytes.as_slice(), b"abcde".as_slice());
     assert!(rt; lines.into_lines().is_empty());
+    Ok(())
+}
+
+/// Takes no byte, and is interrupted at each flush.
+#[derive(Drop)]
+struct Stuck;
+
+impl Write for Stuck {
+    fn write(&mut self, _buf: &[u8]) -> std::io::Result<usize> {
+        Ok(0)
+    }
+
+    fn flush(&mut self) -> std::io::Result<()> {
+        Err(ErrorKind::Interrupted.into())
+    }
+}
+
+/// Each fault is noted, also where the host reports no error.
+#[test]
+fn a_stuck_sink(rt: HostRuntime) -> Result<(), Fail> {
+    let lines = Memory::new(rt.alloc());
+    let mut sink = StdSink::new(Stuck, &lines);
+    assert!(rt; sink.write(b"abc") == Err(Failed));
+    assert!(rt; sink.flush() == Err(Failed));
+    drop(sink);
+    assert_eq!(rt; lines.into_lines().len(), 2);
+    Ok(())
+}
+
+/// A command line, with the program's name.
+#[derive(Drop)]
+struct CommandLine<'a> {
+    words: &'a [&'a [u8]],
+}
+
+impl Env for CommandLine<'_> {
+    fn arg(&self, i: usize, buf: &mut [u8]) -> Result<usize, FillError> {
+        let Some(word) = self.words.get(i) else {
+            return Err(FillError::NotPresent);
+        };
+        match buf.get_mut(..word.len()) {
+            Some(front) => {
+                front.copy_from_slice(word);
+                Ok(word.len())
+            }
+            None => Err(FillError::TooLong),
+        }
+    }
+
+    fn var(&self, _name: &str, _buf: &mut [u8]) -> Result<usize, FillError> {
+        Err(FillError::NotPresent)
+    }
+
+    fn var_at(&self, _i: usize, _buf: &mut [u8]) -> Result<usize, FillError> {
+        Err(FillError::NotPresent)
+    }
+}
+
+#[test]
+fn words_are_those_behind_the_name(rt: HostRuntime) -> Result<(), Fail> {
+    let words: [&[u8]; 3] = [b"silkit", b"check", "Größe.json".as_bytes()];
+    let line = (CommandLine { words: &words }, rt.alloc());
+    let Ok(read) = read_words(&line) else {
+        return Err(Fail::new("words that are UTF-8"));
+    };
+    assert_eq!(rt; read.len(), 2);
+    assert_eq!(rt; read[0].as_str(), "check");
+    assert_eq!(rt; read[1].as_str(), "Größe.json");
+    assert!(rt; !is_pipe(&line));
+    Ok(())
+}
+
+/// A word that isn't UTF-8 is refused, and only `pipe` keeps silent about it.
+#[test]
+fn words_that_are_not_utf8(rt: HostRuntime) -> Result<(), Fail> {
+    let table: [(&[u8], bool); 4] = [
+        (b"check", false),
+        (b"pipe", true),
+        (b"pip", false),
+        (b"pipes", false),
+    ];
+    for (command, is_silent) in table {
+        let words: [&[u8]; 3] = [b"silkit", command, b"\xff"];
+        let line = (CommandLine { words: &words }, rt.alloc());
+        let Err(fault) = read_words(&line) else {
+            return Err(Fail::new("no refusal"));
+        };
+        assert!(rt; fault == NoWords::NotUtf8);
+        assert_eq!(rt; fault.status(), 2);
+        assert_eq!(rt; fault.line(), "silkit: usage\n");
+        assert!(rt; is_pipe(&line) == is_silent);
+    }
     Ok(())
 }

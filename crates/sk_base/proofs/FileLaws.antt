@@ -1,13 +1,12 @@
 -- The first file of a path.
 use Rattle.std.proofs.Common.{◌≡◌, ℕ, ◌<◌, ◌≤◌, ◌+◌, Bool, true, false, List, [], ◌∷◌, length, Option, Some, None, IsSome, refl, sym, ◌∙◌, arith, rules, suc}
-use Rattle.std.specs.Prelude.{find, slice_get, position, nat_lt, string_bytes, cond}
+use Rattle.std.specs.Prelude.{position, nat_lt, string_bytes, cond}
 use Rattle.std.specs.List.{position_or_len}
 use Rattle.std.specs.Str.{bytes_eq}
 use Rattle.std.proofs.lemmas.Slice.Eq.{bytes_eq-Decides}
 use Rattle.std.proofs.lemmas.Bool.{ltb-true, ltb-false}
 use Rattle.std.proofs.lemmas.List.Folds.{find_at}
 use Rattle.std.proofs.lemmas.Option.{slice_get_past}
-use Rattle.std.proofs.lemmas.Grind.{common_steps}
 use Rattle.sk_base.specs.Memory.{has_path, content_of, path_at, content_at, IsFirst, opened_path}
 use Rattle.sk_base.specs.declared.memory.files.MemFile.{MemFile}
 

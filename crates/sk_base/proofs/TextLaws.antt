@@ -1,6 +1,6 @@
 -- What the checks of a text say together.
 use Rattle.std.proofs.Common.{◌≡◌, ℕ, ◌≤◌, ◌<◌, true, false, List, length, Option, Some, None, refl, arith}
-use Rattle.std.specs.Prelude.{nat_lt, position, is_none}
+use Rattle.std.specs.Prelude.{position, is_none}
 use Rattle.std.specs.Str.{IsUtf8}
 use Rattle.std.proofs.lemmas.Str.{is_utf8-from_IsUtf8, IsUtf8-from_is_utf8}
 use Rattle.std.proofs.lemmas.Bool.{le-ltb, lt-ltb, le-leb, leb-true, ltb-true, and_parts, ne_eqb, false_from_ne_true, and_left, and_right}

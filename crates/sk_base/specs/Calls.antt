@@ -1,5 +1,6 @@
 -- What was asked of a net: each answer of listen, connect and accept but Failed, in one order.
-use Rattle.std.specs.Prelude.{◌≡◌, ◌≢◌, ◌||◌, ◌&&◌, ◌==◌, not, ℕ, Bool, false, List, Option, Some, None}
+use Rattle.std.specs.Prelude.{◌≡◌, ◌≢◌, ◌≤◌, ◌-◌, ◌++◌, ◌||◌, ◌&&◌, ◌==◌, not, ℕ, Bool, false, List, length, take, codes, decimal, nat_eq, Option, Some, None, MatchBool}
+use Rattle.std.specs.List.{ends_with}
 
 pub data Called : Type 0 where
   -- a listen at this address answered that it is bound to this one
@@ -38,3 +39,10 @@ OpensSome is_open was_opened is_open_now was_opened_now None = Same is_open is_o
 -- this link is open no more
 abbrev pub Closes : ℕ → (ℕ → Bool) → (ℕ → Bool) → Type 0
 Closes link is_open is_open_now = (number : ℕ) → is_open_now number ≡ (not (number == link) && is_open number)
+
+-- where one listens who asked for this address: there; but where its port is 0, at some port from 1 to 65,535 of the same host
+abbrev pub IsBoundTo : List ℕ → List ℕ → Type 0
+IsBoundTo asked bound =
+    MatchBool (ends_with nat_eq asked (codes ":0"))
+    ((port : ℕ) × (1 ≤ port) × (port ≤ 65535) × (bound ≡ take (length asked - 1) asked ++ decimal port))
+    (bound ≡ asked)

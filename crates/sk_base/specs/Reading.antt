@@ -1,5 +1,5 @@
 -- What files that tell their contents answer.
-use Rattle.std.specs.Prelude.{◌≡◌, ◌<◌, ◌≤◌, ◌+◌, ◌-◌, ℕ, List, length, take, drop, Option, None, IsSome, IfSome, unwrap_or, []}
+use Rattle.std.specs.Prelude.{◌≡◌, ◌≤◌, ◌+◌, ℕ, List, length, take, drop, Option, None, IsSome, IfSome}
 use Rattle.sk_base.specs.declared.files.Opened.{Opened}
 use Rattle.sk_base.specs.declared.files.Opened.TheVariants.{Ready, Absent}
 

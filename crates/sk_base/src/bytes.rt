@@ -26,17 +26,17 @@ impl Model for Bytes {
 impl Bytes {
     /// These bytes, or TooLong where there are more than 4,096.
     #[tactic(auto, unfolding(crate::specs::Ranges::is_payload))]
-    pub fn new(alloc: Global, data: &[u8]) -> Result<Bytes, BytesFault>
-        ensures made { IfOk result (λ made. (made ≡ data.now) × IsTrue (is_payload data.now)) }
-        ensures memory { result ≡ Err BytesFault.WantOfMemory → IsTrue (is_payload data.now) }
-        ensures refused { is_payload data.now ≡ false → result ≡ Err (BytesFault.TooLong (length data.now)) }
-        ensures only { IfErr result (λ fault. (fault ≡ BytesFault.WantOfMemory) ⊎ ((fault ≡ BytesFault.TooLong (length data.now)) × (is_payload data.now ≡ false))) }
+    pub fn new(alloc: Global, payload: &[u8]) -> Result<Bytes, BytesFault>
+        ensures made { IfOk result (λ made. (made ≡ payload.now) × IsTrue (is_payload payload.now)) }
+        ensures memory { result ≡ Err BytesFault.WantOfMemory → IsTrue (is_payload payload.now) }
+        ensures refused { is_payload payload.now ≡ false → result ≡ Err (BytesFault.TooLong (length payload.now)) }
+        ensures only { IfErr result (λ fault. (fault ≡ BytesFault.WantOfMemory) ⊎ ((fault ≡ BytesFault.TooLong (length payload.now)) × (is_payload payload.now ≡ false))) }
     {
-        if data.len() > LONGEST_PAYLOAD {
-            return Err(BytesFault::TooLong(data.len()));
+        if payload.len() > LONGEST_PAYLOAD {
+            return Err(BytesFault::TooLong(payload.len()));
         }
         Ok(Bytes {
-            bytes: Vec::from_slice(alloc, data)?,
+            bytes: Vec::from_slice(alloc, payload)?,
         })
     }
 

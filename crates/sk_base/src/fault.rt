@@ -6,7 +6,7 @@ ghost use Rattle.sk_base.specs.declared.fault.NameFault.TheVariants as faults;
 
 use std::alloc::{AllocError, AllocFailed};
 
-/// Memory ran out. What the call was made on is as before.
+/// Memory ran out. What the call was made on is as before, unless the call says otherwise.
 #[derive(Clone, Copy, Debug, PartialEq, Eq)]
 pub struct WantOfMemory;
 

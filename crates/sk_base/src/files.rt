@@ -1,6 +1,6 @@
 //! Files to be read, one at a time.
 
-ghost use Rattle.std.specs.Prelude.{◌≡◌, ◌<◌, ◌≤◌, ◌+◌, ◌↔◌, ℕ, Bool, true, false, List, [], length, take, drop, Option, Some, None, IfOk, OnOk, OnErr, IsTrue, IsOk, MatchResult};
+ghost use Rattle.std.specs.Prelude.{◌≡◌, ◌<◌, ◌≤◌, ◌↔◌, ℕ, Bool, true, false, List, [], length, Option, None, IfOk, OnOk, OnErr, IsTrue, MatchResult};
 ghost use Rattle.sk_base.specs.Talk.{Rose};
 ghost use Rattle.sk_base.specs.Reading.{Opens, Reads};
 ghost use Rattle.sk_base.specs.declared.files.Opened.TheVariants as opened;

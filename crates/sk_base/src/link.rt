@@ -33,7 +33,8 @@ pub trait Link {
     // How many calls failed. The count never falls, and stands still at the end of a u64.
     ghost faults: { Self → ℕ };
 
-    // Whether the talk is told. Links to the outside leave this at its default and owe nothing on it.
+    // Whether the talk is told. Links to the outside leave this at its default and owe nothing on
+    // it.
     ghost tells: { Self → Bool } = { λ _. false };
 
     // All that was said so far, in one order.

@@ -2,7 +2,7 @@
 
 ghost use Rattle.std.specs.Prelude.{◌≡◌, ◌<◌, ◌++◌, ℕ, Bool, true, false, List, [], ◌∷◌, length, IfOk, IfErr, OnOk, OnErr, IsTrue, MatchResult};
 ghost use Rattle.sk_base.specs.Talk.{Said, said_by_take, said_by_give, TakesWithin, GivesWithin, Rose};
-ghost use Rattle.sk_base.specs.Calls.{Called, Listened, Connected, called_by_accept, Same, SameBut, Opens, OpensSome, Closes};
+ghost use Rattle.sk_base.specs.Calls.{Called, Listened, Connected, called_by_accept, Same, SameBut, Opens, OpensSome, Closes, IsBoundTo};
 
 use crate::fault::Failed;
 use crate::link::{Gave, Took};
@@ -22,7 +22,8 @@ pub trait Net {
     // The same of `take` and `give`, by the link's number.
     ghost link_faults: { Self → ℕ → ℕ };
 
-    // Which numbers are those of open links, and which were ever used. Each implementation tells this.
+    // Which numbers are those of open links, and which were ever used. Each implementation tells
+    // this.
     ghost is_open_of: { Self → ℕ → Bool };
 
     ghost was_opened: { Self → ℕ → Bool };
@@ -41,8 +42,9 @@ pub trait Net {
         ensures { result ≡ is_open_of self.now link };
 
     /// Listens at this address, and answers the address that it is bound to: that one, with a free
-    /// port in place of the port 0.
+    /// port in place of the port 0, which is asked for by `:0` at the end.
     fn listen(&mut self, at: &Text) -> Result<Text, Failed>
+        ensures bound { IfOk result (IsBoundTo at.now) }
         ensures rose { OnErr result (Rose (faults self.old) (faults self.new)) }
         ensures steady { OnOk result (faults self.new ≡ faults self.old) }
         ensures counts { Same (link_faults self.old) (link_faults self.new) }

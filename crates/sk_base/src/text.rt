@@ -1,6 +1,8 @@
 //! Names and texts: short pieces of UTF-8 that fit a line and a frame.
 
 ghost use Rattle.std.specs.Prelude.{◌≡◌, ℕ, List, length, ◌≤◌, position, ◌⊎◌, Some, None, false, IsTrue, IfOk, IfErr, OnErr, IfNone, IfSome, ◌≢◌, if◌then◌else◌};
+ghost use Rattle.std.specs.Char.{is_ascii_digit};
+ghost use Rattle.std.specs.List.{list_all};
 ghost use Rattle.std.specs.String.{string_bytes};
 ghost use Rattle.sk_base.specs.declared.fault.NameFault.{NameFault};
 ghost use Rattle.sk_base.specs.Ranges.{is_control, is_text, is_name, text_fault, name_fault};
@@ -165,4 +167,11 @@ fn first_fault(text: &str) -> Option<NameFault>
         Some(at) => Some(NameFault::Control(at)),
         None => None,
     }
+}
+
+/// Whether each character is a decimal digit of ASCII.
+pub fn is_digits(text: &str) -> bool
+    ensures { result ≡ list_all is_ascii_digit text.now }
+{
+    text.as_bytes().iter().all(|byte| byte.is_ascii_digit())
 }

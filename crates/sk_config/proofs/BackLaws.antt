@@ -12,12 +12,11 @@ use Rattle.sk_msg.specs.Each.{each_after}
 use Rattle.sk_msg.specs.declared.service.ServiceKind.{ServiceKind}
 use Rattle.sk_msg.specs.declared.service.ServiceKind.TheVariants.{Can, Ethernet, Lin, Publisher, Subscriber, Server, Client}
 use Rattle.sk_config.specs.Configs.{ConfigValue, entries_of, is_none_or, is_address, is_next_entry, is_entry_count, are_entries, is_config}
-use Rattle.sk_config.specs.Keys.{kinds, row_of, is_list_key, knows}
+use Rattle.sk_config.specs.Keys.{kinds, row_of, is_list_key, knows, participant_name_key, middleware_key, registry_uri_key}
 use Rattle.sk_config.specs.Reading.{text_at, items_at, list_of, uri_of, unused_in, unused, list_unused, middleware_unused, warnings_of, string_fault, object_fault, text_fault, array_fault, list_fault, middleware_fault_at, middleware_fault, reading_at, reading}
 use Rattle.sk_config.specs.Written.{list_data, put_lists, entries_data, middleware_data, config_data}
 use Rattle.sk_config.specs.declared.config.ConfigEntry.{ConfigEntry}
 use Rattle.sk_config.specs.declared.keys.Object.TheVariants.{Root, Middleware}
-use Rattle.sk_config.specs.declared.keys.TheConstants.{PARTICIPANT_NAME, MIDDLEWARE, REGISTRY_URI}
 use Rattle.sk_config.proofs.EntryLaws.{count_back, entries_back, entries_unused_none, entries_fault_none, plain_entries}
 use Rattle.sk_config.proofs.FoundLaws.{or_none, found, nothing_unused, IsPlain, ArePlain, IfPlain, none_plain, plain_some}
 use Rattle.sk_config.proofs.ReadLaws.{json_of-text}
@@ -26,11 +25,11 @@ use Rattle.sk_config.proofs.WholeLaws.{ForKinds, no_fault, says_all, reading_is}
 -- ---- what is found at each key
 
 module _ (c : ConfigValue) where
-  name_there : get PARTICIPANT_NAME.now (config_data c) ≡ option_map string c.participant_name
+  name_there : get participant_name_key (config_data c) ≡ option_map string c.participant_name
   unfolding config_data
   name_there = simp (found, or_none)
 
-  middleware_there : get MIDDLEWARE.now (config_data c) ≡ option_map middleware_data c.registry_uri
+  middleware_there : get middleware_key (config_data c) ≡ option_map middleware_data c.registry_uri
   unfolding config_data
   middleware_there = simp (found, or_none)
 
@@ -44,7 +43,7 @@ module _ (c : ConfigValue) where
   list_there Server = simp (found, or_none)
   list_there Client = simp (found, or_none)
 
-uri_there : (uri : List ℕ) → get REGISTRY_URI.now (middleware_data uri) ≡ Some (string uri)
+uri_there : (uri : List ℕ) → get registry_uri_key (middleware_data uri) ≡ Some (string uri)
 unfolding middleware_data
 uri_there uri = simp (found, or_none)
 
@@ -87,17 +86,17 @@ middleware_fine : (path : List ℕ) (o : Option (List ℕ)) → is_none_or is_ad
 middleware_fine path None fine = refl
 middleware_fine path (Some uri) fine = uri_fine path uri fine
 
-uri_back : (o : Option (List ℕ)) → option_and_then (text_at REGISTRY_URI.now) (option_map middleware_data o) ≡ o
+uri_back : (o : Option (List ℕ)) → option_and_then (text_at registry_uri_key) (option_map middleware_data o) ≡ o
 uri_back None = refl
 uri_back (Some uri) = rw (uri_there uri) refl
 
-knows_uri : knows Middleware REGISTRY_URI.now ≡ true
+knows_uri : knows Middleware registry_uri_key ≡ true
 unfolding knows
 knows_uri = refl
 
 uri_unused : (path uri : List ℕ) → unused Middleware path (middleware_data uri) ≡ []
 unfolding unused middleware_data
-uri_unused path uri = nothing_unused Middleware path REGISTRY_URI.now (Some (string uri)) no_members knows_uri refl
+uri_unused path uri = nothing_unused Middleware path registry_uri_key (Some (string uri)) no_members knows_uri refl
 
 middleware_quiet : (path : List ℕ) (o : Option (List ℕ)) → unwrap_or (option_map (unused Middleware path) (option_map middleware_data o)) [] ≡ []
 middleware_quiet path None = refl
@@ -123,11 +122,11 @@ knows_list Subscriber = refl
 knows_list Server = refl
 knows_list Client = refl
 
-knows_name : knows Root PARTICIPANT_NAME.now ≡ true
+knows_name : knows Root participant_name_key ≡ true
 unfolding knows is_list_key
 knows_name = refl
 
-knows_middleware : knows Root MIDDLEWARE.now ≡ true
+knows_middleware : knows Root middleware_key ≡ true
 unfolding knows is_list_key
 knows_middleware = refl
 
@@ -139,14 +138,14 @@ module _ (path : List ℕ) (c : ConfigValue) where
   root_unused : unused Root path (config_data c) ≡ []
   unfolding unused config_data
   root_unused =
-      nothing_unused Root path MIDDLEWARE.now _ _ knows_middleware
-      (lists_unused path c kinds _ (nothing_unused Root path PARTICIPANT_NAME.now (option_map string c.participant_name) no_members knows_name refl))
+      nothing_unused Root path middleware_key _ _ knows_middleware
+      (lists_unused path c kinds _ (nothing_unused Root path participant_name_key (option_map string c.participant_name) no_members knows_name refl))
 
   root_object : object_fault path (config_data c) ≡ None
   unfolding object_fault config_data
   root_object = refl
 
-  root_name : is_none_or is_name c.participant_name ≡ true → text_fault is_name path PARTICIPANT_NAME.now (config_data c) ≡ None
+  root_name : is_none_or is_name c.participant_name ≡ true → text_fault is_name path participant_name_key (config_data c) ≡ None
   unfolding text_fault
   root_name fine = rw (name_there c) (name_fine _ c.participant_name fine)
 
@@ -158,7 +157,7 @@ module _ (path : List ℕ) (c : ConfigValue) where
   unfolding uri_of
   uri_read = sym (rw (middleware_there c) (uri_back c.registry_uri))
 
-  name_read : c.participant_name ≡ text_at PARTICIPANT_NAME.now (config_data c)
+  name_read : c.participant_name ≡ text_at participant_name_key (config_data c)
   name_read = sym (rw (name_there c) (text_back c.participant_name))
 
   middleware_none : middleware_unused path (config_data c) ≡ []
@@ -220,7 +219,7 @@ plain_lists c (kind ∷ ks) ms p = plain_lists c ks _ (plain_some 2 (row_of kind
 plain_uri : (uri : List ℕ) → IsPlain 2 (middleware_data uri)
 unfolding middleware_data
 plain_uri uri =
-    let ms = plain_some 0 REGISTRY_URI.now (Some (string uri)) no_members (record { shallow = omega arith; whole = refl }) (none_plain 0) in
+    let ms = plain_some 0 registry_uri_key (Some (string uri)) no_members (record { shallow = omega arith; whole = refl }) (none_plain 0) in
     record { shallow = omega (arith, ms.shallow); whole = ms.whole }
 
 plain_middleware : (o : Option (List ℕ)) → IfPlain 2 (option_map middleware_data o)
@@ -234,7 +233,7 @@ plain_name (Some name) = record { shallow = omega arith; whole = refl }
 pub plain_config : (c : ConfigValue) → (depth (config_data c) ≤ max_depth) × (has_float (config_data c) ≡ false)
 unfolding config_data
 plain_config c =
-    let ms = plain_some 2 MIDDLEWARE.now _ _ (plain_middleware c.registry_uri) (plain_lists c kinds _ (plain_some 2 PARTICIPANT_NAME.now _ no_members (plain_name c.participant_name) (none_plain 2))) in
+    let ms = plain_some 2 middleware_key _ _ (plain_middleware c.registry_uri) (plain_lists c kinds _ (plain_some 2 participant_name_key _ no_members (plain_name c.participant_name) (none_plain 2))) in
     (omega (arith, ms.shallow), ms.whole)
 
 -- bytes whose JSON is what is written of a configuration

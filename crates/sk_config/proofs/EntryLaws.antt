@@ -11,22 +11,21 @@ use Rattle.sk_msg.specs.Each.{each_after}
 use Rattle.sk_msg.specs.declared.service.ServiceKind.{ServiceKind}
 use Rattle.sk_msg.specs.declared.service.ServiceKind.TheVariants.{Can, Ethernet, Lin, Publisher, Subscriber, Server, Client}
 use Rattle.sk_config.specs.Configs.{is_new, is_none_or, is_next_entry}
-use Rattle.sk_config.specs.Keys.{row_of, knows}
+use Rattle.sk_config.specs.Keys.{row_of, knows, name_key, history_key}
 use Rattle.sk_config.specs.Paths.{index_at}
 use Rattle.sk_config.specs.Reading.{whole, name_of, history_of, entry_of, entries_in, unused_in, unused, entries_unused, string_fault, number_fault, object_fault, text_fault, missing_fault, double_fault, history_fault, entry_name_fault, entry_fault, entries_fault}
 use Rattle.sk_config.specs.Written.{put_some, history_data, entry_data, entries_data}
 use Rattle.sk_config.specs.declared.config.ConfigEntry.{ConfigEntry}
 use Rattle.sk_config.specs.declared.fault.ConfigFault.{ConfigFault}
 use Rattle.sk_config.specs.declared.keys.Object.TheVariants.{Entry}
-use Rattle.sk_config.specs.declared.keys.TheConstants.{NAME, HISTORY}
 use Rattle.sk_config.proofs.FoundLaws.{or_none, found, nothing_unused, IsPlain, IfPlain, none_plain, plain_some}
 
 -- the keys of an entry differ
 record AreApart (kind : ServiceKind) : Type 0 where
-  name : bytes_eq NAME.now (row_of kind).target ≡ false
-  history : bytes_eq HISTORY.now (row_of kind).target ≡ false
-  target_name : bytes_eq (row_of kind).target NAME.now ≡ false
-  target_history : bytes_eq (row_of kind).target HISTORY.now ≡ false
+  name : bytes_eq name_key (row_of kind).target ≡ false
+  history : bytes_eq history_key (row_of kind).target ≡ false
+  target_name : bytes_eq (row_of kind).target name_key ≡ false
+  target_history : bytes_eq (row_of kind).target history_key ≡ false
   target : bytes_eq (row_of kind).target (row_of kind).target ≡ true
 
 apart : (kind : ServiceKind) → AreApart kind
@@ -39,7 +38,7 @@ apart Server = record { name = refl; history = refl; target_name = refl; target_
 apart Client = record { name = refl; history = refl; target_name = refl; target_history = refl; target = refl }
 
 module _ (kind : ServiceKind) (e : ConfigEntry) where
-  name_there : get NAME.now (entry_data kind e) ≡ Some (string e.name)
+  name_there : get name_key (entry_data kind e) ≡ Some (string e.name)
   unfolding entry_data
   name_there = let a = apart kind in simp (found, a.name)
 
@@ -47,7 +46,7 @@ module _ (kind : ServiceKind) (e : ConfigEntry) where
   unfolding entry_data
   target_there = let a = apart kind in simp (found, a.target_name, a.target_history, a.target, or_none)
 
-  history_there : get HISTORY.now (entry_data kind e) ≡ option_map history_data e.history
+  history_there : get history_key (entry_data kind e) ≡ option_map history_data e.history
   unfolding entry_data
   history_there = let a = apart kind in simp (found, a.history, or_none)
 
@@ -93,7 +92,7 @@ parts kind earlier e h =
     let three = and_parts _ _ two.1 in
     record { name = one.0; new = two.0; target = three.0; history = three.1 }
 
-knows_name : (kind : ServiceKind) → knows (Entry kind) NAME.now ≡ true
+knows_name : (kind : ServiceKind) → knows (Entry kind) name_key ≡ true
 unfolding knows
 knows_name kind = refl
 
@@ -101,15 +100,15 @@ knows_target : (kind : ServiceKind) → knows (Entry kind) (row_of kind).target 
 unfolding knows
 knows_target kind = let a = apart kind in rw (a.target_name, a.target) refl
 
-knows_history : (kind : ServiceKind) → (row_of kind).has_history ≡ true → knows (Entry kind) HISTORY.now ≡ true
+knows_history : (kind : ServiceKind) → (row_of kind).has_history ≡ true → knows (Entry kind) history_key ≡ true
 unfolding knows
 knows_history kind has = let a = apart kind in rw (a.history, has) refl
 
 -- history is known where it is written
-history_unused : (kind : ServiceKind) (path : List ℕ) (has : Bool) (o : Option Bool) (ms : Members) → (row_of kind).has_history ≡ has → (has || is_none o) ≡ true → unused_in (Entry kind) path ms ≡ [] → unused_in (Entry kind) path (put_some HISTORY.now (option_map history_data o) ms) ≡ []
+history_unused : (kind : ServiceKind) (path : List ℕ) (has : Bool) (o : Option Bool) (ms : Members) → (row_of kind).has_history ≡ has → (has || is_none o) ≡ true → unused_in (Entry kind) path ms ≡ [] → unused_in (Entry kind) path (put_some history_key (option_map history_data o) ms) ≡ []
 unfolding put_some
 history_unused kind path has None ms is h none = none
-history_unused kind path true (Some history) ms is h none = nothing_unused (Entry kind) path HISTORY.now (Some (history_data history)) ms (knows_history kind is) none
+history_unused kind path true (Some history) ms is h none = nothing_unused (Entry kind) path history_key (Some (history_data history)) ms (knows_history kind is) none
 history_unused kind path false (Some history) ms is h none = absurd (false≢true h)
 
 module _ (kind : ServiceKind) (path : List ℕ) (earlier : List ConfigEntry) (e : ConfigEntry) (next : IsNext kind earlier e) where
@@ -126,7 +125,7 @@ module _ (kind : ServiceKind) (path : List ℕ) (earlier : List ConfigEntry) (e 
   entry_unused =
       history_unused kind path _ e.history _ refl next.history
       (nothing_unused (Entry kind) path (row_of kind).target (option_map string e.target) _ (knows_target kind)
-      (nothing_unused (Entry kind) path NAME.now (Some (string e.name)) no_members (knows_name kind) refl))
+      (nothing_unused (Entry kind) path name_key (Some (string e.name)) no_members (knows_name kind) refl))
 
   is_object : object_fault path (entry_data kind e) ≡ None
   unfolding object_fault entry_data
@@ -186,7 +185,7 @@ plain_history n (Some history) = record { shallow = omega arith; whole = refl }
 plain_entry : (kind : ServiceKind) (e : ConfigEntry) → IsPlain 1 (entry_data kind e)
 unfolding entry_data
 plain_entry kind e =
-    let ms = plain_some 0 HISTORY.now _ _ (plain_history 0 e.history) (plain_some 0 (row_of kind).target _ _ (plain_text 0 e.target) (plain_some 0 NAME.now (Some (string e.name)) no_members (plain_text 0 (Some e.name)) (none_plain 0))) in
+    let ms = plain_some 0 history_key _ _ (plain_history 0 e.history) (plain_some 0 (row_of kind).target _ _ (plain_text 0 e.target) (plain_some 0 name_key (Some (string e.name)) no_members (plain_text 0 (Some e.name)) (none_plain 0))) in
     record { shallow = omega (arith, ms.shallow); whole = ms.whole }
 
 pub plain_entries : (kind : ServiceKind) (es : List ConfigEntry) → (items_depth (entries_data kind es) ≤ 1) × (items_have_float (entries_data kind es) ≡ false)

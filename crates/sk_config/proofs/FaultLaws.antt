@@ -8,14 +8,13 @@ use Rattle.sk_base.specs.Ranges.{is_name}
 use Rattle.sk_msg.specs.declared.service.ServiceKind.{ServiceKind}
 use Rattle.sk_msg.specs.declared.service.ServiceKind.TheVariants.{Can, Ethernet, Lin, Publisher, Subscriber, Server, Client}
 use Rattle.sk_config.specs.Configs.{is_new, is_address}
-use Rattle.sk_config.specs.Keys.{row_of}
+use Rattle.sk_config.specs.Keys.{row_of, participant_name_key, middleware_key, name_key, history_key, registry_uri_key}
 use Rattle.sk_config.specs.Paths.{key_at, index_at}
 use Rattle.sk_config.specs.Reading.{whole, name_of, entry_of, first_of, object_fault, string_fault, text_fault, missing_fault, double_fault, number_fault, history_fault, entry_name_fault, entry_fault, entries_fault, array_fault, list_fault, middleware_fault, fault_of, reading_or, reading_at, json_of, reading_from, reading}
 use Rattle.sk_config.specs.declared.config.ConfigEntry.{ConfigEntry}
 use Rattle.sk_config.specs.declared.config.ConfigRead.{ConfigRead}
 use Rattle.sk_config.specs.declared.fault.ConfigFault.{ConfigFault}
 use Rattle.sk_config.specs.declared.fault.ConfigFault.TheVariants.{NotJson, Missing, WrongType, BadValue, Double, WantOfMemory}
-use Rattle.sk_config.specs.declared.keys.TheConstants.{PARTICIPANT_NAME, MIDDLEWARE, NAME, HISTORY, REGISTRY_URI}
 
 -- a fault of a value's content, if any
 abbrev IsOfValue : Option ConfigFault → Type 0
@@ -57,7 +56,7 @@ of_missing path key d = either (is_none (get key d)) (Some (Missing (key_at path
 
 of_double : (path : List ℕ) (earlier : List ConfigEntry) (d : Data) → IsOfValue (double_fault path earlier d)
 unfolding double_fault
-of_double path earlier d = either (is_new earlier (name_of d)) None (Some (Double (key_at path NAME.now))) tt tt
+of_double path earlier d = either (is_new earlier (name_of d)) None (Some (Double (key_at path name_key))) tt tt
 
 of_number : (path : List ℕ) (o : Option ℕ) → IsOfValue (number_fault path o)
 of_number path None = tt
@@ -65,11 +64,11 @@ of_number path (Some n) = either (nat_lt n 2) None (Some (BadValue path)) tt tt
 
 of_history : (kind : ServiceKind) (path : List ℕ) (d : Data) → IsOfValue (history_fault kind path d)
 unfolding history_fault
-of_history kind path d = either (row_of kind).has_history _ None (each _ (get HISTORY.now d) (λ v. of_number (key_at path HISTORY.now) (whole v))) tt
+of_history kind path d = either (row_of kind).has_history _ None (each _ (get history_key d) (λ v. of_number (key_at path history_key) (whole v))) tt
 
 of_entry_name : (path : List ℕ) (earlier : List ConfigEntry) (d : Data) → IsOfValue (entry_name_fault path earlier d)
 unfolding entry_name_fault
-of_entry_name path earlier d = both _ _ (of_text is_name path NAME.now d) (both _ _ (of_missing path NAME.now d) (both _ [] (of_double path earlier d) tt))
+of_entry_name path earlier d = both _ _ (of_text is_name path name_key d) (both _ _ (of_missing path name_key d) (both _ [] (of_double path earlier d) tt))
 
 of_entry : (kind : ServiceKind) (path : List ℕ) (earlier : List ConfigEntry) (d : Data) → IsOfValue (entry_fault kind path earlier d)
 unfolding entry_fault
@@ -89,13 +88,13 @@ of_list path d kind = each _ (get (row_of kind).list d) (λ v. of_array kind (ke
 
 of_middleware : (path : List ℕ) (d : Data) → IsOfValue (middleware_fault path d)
 unfolding middleware_fault
-of_middleware path d = each _ (get MIDDLEWARE.now d) (λ v. both _ _ (of_object (key_at path MIDDLEWARE.now) v) (both _ [] (of_text is_address (key_at path MIDDLEWARE.now) REGISTRY_URI.now v) tt))
+of_middleware path d = each _ (get middleware_key d) (λ v. both _ _ (of_object (key_at path middleware_key) v) (both _ [] (of_text is_address (key_at path middleware_key) registry_uri_key v) tt))
 
 of_value : (path : List ℕ) (d : Data) → IsOfValue (fault_of path d)
 unfolding fault_of
 of_value path d =
     let list = of_list path d in
-    both _ _ (of_object path d) (both _ _ (of_text is_name path PARTICIPANT_NAME.now d)
+    both _ _ (of_object path d) (both _ _ (of_text is_name path participant_name_key d)
     (both _ _ (list Can) (both _ _ (list Ethernet) (both _ _ (list Lin) (both _ _ (list Publisher) (both _ _ (list Subscriber) (both _ _ (list Server) (both _ _ (list Client)
     (both _ [] (of_middleware path d) tt)))))))))
 

@@ -14,7 +14,7 @@ use Rattle.sk_msg.specs.Each.{each_after}
 use Rattle.sk_msg.proofs.LabelLaws.{each_after-snoc}
 use Rattle.sk_config.specs.Configs.{is_new, is_none_or, is_next_entry, is_entry_count, are_entries}
 use Rattle.sk_msg.specs.declared.service.ServiceKind.{ServiceKind}
-use Rattle.sk_config.specs.Keys.{knows, row_of}
+use Rattle.sk_config.specs.Keys.{knows, row_of, name_key}
 use Rattle.sk_config.specs.Outcomes.{Reads, Refuses}
 use Rattle.sk_config.specs.Paths.{key_at, index_at}
 use Rattle.sk_config.specs.Reading.{json_of, unused_in, first_of, string_fault, text_fault, text_at, missing_fault, double_fault, entry_name_fault, name_of, object_fault, history_fault, history_of, entry_fault, entry_of, entries_fault, entries_in, entries_unused, unused, list_fault, list_of, items_at, fault_of, reading_at}
@@ -23,7 +23,6 @@ use Rattle.sk_config.specs.declared.fault.ConfigFault.{ConfigFault}
 use Rattle.sk_config.specs.declared.fault.ConfigFault.TheVariants.{Missing, BadValue, Double, WantOfMemory}
 use Rattle.sk_config.specs.declared.keys.Object.{Object}
 use Rattle.sk_config.specs.declared.keys.Object.TheVariants.{Entry}
-use Rattle.sk_config.specs.declared.keys.TheConstants.{NAME}
 use Rattle.sk_config.specs.declared.warning.Warning.{Warning}
 
 pub json_of-text : (bytes : List ℕ) (d : Option Data) → IsUtf8 bytes → read bytes ≡ d → json_of bytes ≡ d
@@ -62,23 +61,23 @@ present : (v : Option Data) (text : List ℕ) → option_and_then as_str v ≡ S
 present None text e = absurd cc
 present (Some d) text e = refl
 
-absent_name : (path : List ℕ) (d : Data) → text_fault is_name path NAME.now d ≡ None → text_at NAME.now d ≡ None → is_none (get NAME.now d) ≡ true
+absent_name : (path : List ℕ) (d : Data) → text_fault is_name path name_key d ≡ None → text_at name_key d ≡ None → is_none (get name_key d) ≡ true
 unfolding text_fault
-absent_name path d none e = absent is_name (key_at path NAME.now) (get NAME.now d) none e
+absent_name path d none e = absent is_name (key_at path name_key) (get name_key d) none e
 
-pub no_name : (path : List ℕ) (earlier : List ConfigEntry) (d : Data) → text_fault is_name path NAME.now d ≡ None → text_at NAME.now d ≡ None → entry_name_fault path earlier d ≡ Some (Missing (key_at path NAME.now))
+pub no_name : (path : List ℕ) (earlier : List ConfigEntry) (d : Data) → text_fault is_name path name_key d ≡ None → text_at name_key d ≡ None → entry_name_fault path earlier d ≡ Some (Missing (key_at path name_key))
 unfolding entry_name_fault missing_fault
 no_name path earlier d none e = rw (none, absent_name path d none e) refl
 
-pub double_name : (path : List ℕ) (earlier : List ConfigEntry) (d : Data) (name : List ℕ) → text_fault is_name path NAME.now d ≡ None → text_at NAME.now d ≡ Some name → is_new earlier name ≡ false → entry_name_fault path earlier d ≡ Some (Double (key_at path NAME.now))
+pub double_name : (path : List ℕ) (earlier : List ConfigEntry) (d : Data) (name : List ℕ) → text_fault is_name path name_key d ≡ None → text_at name_key d ≡ Some name → is_new earlier name ≡ false → entry_name_fault path earlier d ≡ Some (Double (key_at path name_key))
 unfolding entry_name_fault missing_fault double_fault name_of
-double_name path earlier d name none e stands = rw (none, present (get NAME.now d) name e, e, stands) refl
+double_name path earlier d name none e stands = rw (none, present (get name_key d) name e, e, stands) refl
 
-pub fine_name : (path : List ℕ) (earlier : List ConfigEntry) (d : Data) (name : List ℕ) → text_fault is_name path NAME.now d ≡ None → text_at NAME.now d ≡ Some name → is_new earlier name ≡ true → (entry_name_fault path earlier d ≡ None) × (name ≡ name_of d)
+pub fine_name : (path : List ℕ) (earlier : List ConfigEntry) (d : Data) (name : List ℕ) → text_fault is_name path name_key d ≡ None → text_at name_key d ≡ Some name → is_new earlier name ≡ true → (entry_name_fault path earlier d ≡ None) × (name ≡ name_of d)
 unfolding entry_name_fault missing_fault double_fault name_of
-fine_name path earlier d name none e new = (rw (none, present (get NAME.now d) name e, e, new) refl, rw e refl)
+fine_name path earlier d name none e new = (rw (none, present (get name_key d) name e, e, new) refl, rw e refl)
 
-pub name_refuses : (path : List ℕ) (earlier : List ConfigEntry) (d : Data) (e : ConfigFault) → Refuses (text_fault is_name path NAME.now d) e → Refuses (entry_name_fault path earlier d) e
+pub name_refuses : (path : List ℕ) (earlier : List ConfigEntry) (d : Data) (e : ConfigFault) → Refuses (text_fault is_name path name_key d) e → Refuses (entry_name_fault path earlier d) e
 unfolding entry_name_fault
 name_refuses path earlier d e h = first_refuses _ _ e h
 

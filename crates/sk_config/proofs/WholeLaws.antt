@@ -5,11 +5,11 @@ use Rattle.serde_json.specs.Data.{Data}
 use Rattle.sk_base.specs.Ranges.{is_name}
 use Rattle.sk_msg.specs.declared.service.ServiceKind.{ServiceKind}
 use Rattle.sk_msg.specs.declared.service.ServiceKind.TheVariants.{Can, Ethernet, Lin, Publisher, Subscriber, Server, Client}
+use Rattle.sk_config.specs.Keys.{participant_name_key}
 use Rattle.sk_config.specs.Configs.{ConfigValue, entries_of, is_none_or, is_address, are_entries, is_config}
 use Rattle.sk_config.specs.Reading.{object_fault, text_fault, list_fault, middleware_fault, fault_of, text_at, list_of, uri_of, config_of, unused, list_unused, middleware_unused, warnings_of, reading_at}
 use Rattle.sk_config.specs.declared.config.ConfigEntry.{ConfigEntry}
 use Rattle.sk_config.specs.declared.keys.Object.TheVariants.{Root}
-use Rattle.sk_config.specs.declared.keys.TheConstants.{PARTICIPANT_NAME}
 use Rattle.sk_config.specs.declared.warning.Warning.{Warning}
 
 -- a fact for each kind
@@ -23,13 +23,13 @@ are_rules config name lists uri =
     (and_from _ _ lists.0 (and_from _ _ lists.1 (and_from _ _ lists.2 (and_from _ _ lists.3 (and_from _ _ lists.4 (and_from _ _ lists.5 (and_from _ _ lists.6 refl)))))))
     uri)
 
-pub no_fault : (path : List ℕ) (d : Data) → object_fault path d ≡ None → text_fault is_name path PARTICIPANT_NAME.now d ≡ None → ForKinds (λ kind. list_fault path d kind ≡ None) → middleware_fault path d ≡ None → fault_of path d ≡ None
+pub no_fault : (path : List ℕ) (d : Data) → object_fault path d ≡ None → text_fault is_name path participant_name_key d ≡ None → ForKinds (λ kind. list_fault path d kind ≡ None) → middleware_fault path d ≡ None → fault_of path d ≡ None
 unfolding fault_of
 no_fault path d object name lists middleware =
     rw (object, name, lists.0, lists.1, lists.2, lists.3, lists.4, lists.5, lists.6, middleware) refl
 
 pub says_all : (path : List ℕ) (d : Data) (name : Option (List ℕ)) (can ethernet lin publishers subscribers servers clients : List ConfigEntry) (uri : Option (List ℕ))
-    → name ≡ text_at PARTICIPANT_NAME.now d
+    → name ≡ text_at participant_name_key d
     → (can ≡ list_of Can d) × (ethernet ≡ list_of Ethernet d) × (lin ≡ list_of Lin d) × (publishers ≡ list_of Publisher d) × (subscribers ≡ list_of Subscriber d) × (servers ≡ list_of Server d) × (clients ≡ list_of Client d)
     → uri ≡ uri_of d
     → ◌≡◌ {A = ConfigValue} (record { participant_name = name; can = can; ethernet = ethernet; lin = lin; publishers = publishers; subscribers = subscribers; servers = servers; clients = clients; registry_uri = uri }) (config_of d)

@@ -10,7 +10,7 @@ use Rattle.serde_json.specs.Read.{read}
 use Rattle.sk_base.specs.Ranges.{is_name}
 use Rattle.sk_msg.specs.declared.service.ServiceKind.{ServiceKind}
 use Rattle.sk_msg.specs.declared.service.ServiceKind.TheVariants.{Can, Ethernet, Lin, Publisher, Subscriber, Server, Client}
-use Rattle.sk_config.specs.Keys.{kinds, row_of, knows}
+use Rattle.sk_config.specs.Keys.{kinds, row_of, knows, participant_name_key, middleware_key, name_key, history_key, registry_uri_key}
 use Rattle.sk_config.specs.Paths.{key_at, index_at}
 use Rattle.sk_config.specs.Configs.{ConfigValue, is_address, is_new}
 use Rattle.sk_config.specs.declared.config.ConfigEntry.{ConfigEntry}
@@ -19,7 +19,6 @@ use Rattle.sk_config.specs.declared.fault.ConfigFault.{ConfigFault}
 use Rattle.sk_config.specs.declared.fault.ConfigFault.TheVariants.{NotJson, Missing, WrongType, BadValue, Double}
 use Rattle.sk_config.specs.declared.keys.Object.{Object}
 use Rattle.sk_config.specs.declared.keys.Object.TheVariants.{Root, Entry, Middleware}
-use Rattle.sk_config.specs.declared.keys.TheConstants.{PARTICIPANT_NAME, MIDDLEWARE, NAME, HISTORY, REGISTRY_URI}
 use Rattle.sk_config.specs.declared.warning.Warning.{Warning}
 
 -- ---- looking into a value
@@ -37,11 +36,11 @@ items_at key d = unwrap_or (option_and_then as_array (get key d)) no_items
 -- ---- what it says
 
 unfoldable pub name_of : Data → List ℕ
-name_of d = unwrap_or (text_at NAME.now d) []
+name_of d = unwrap_or (text_at name_key d) []
 
 unfoldable pub history_of : ServiceKind → Data → Option Bool
 history_of kind d =
-    if (row_of kind).has_history then option_map (λ n. n == 1) (option_and_then whole (get HISTORY.now d)) else None
+    if (row_of kind).has_history then option_map (λ n. n == 1) (option_and_then whole (get history_key d)) else None
 
 unfoldable pub entry_of : ServiceKind → Data → ConfigEntry
 entry_of kind d = record { name = name_of d; target = text_at (row_of kind).target d; history = history_of kind d }
@@ -54,11 +53,11 @@ unfoldable pub list_of : ServiceKind → Data → List ConfigEntry
 list_of kind d = entries_in kind (items_at (row_of kind).list d)
 
 unfoldable pub uri_of : Data → Option (List ℕ)
-uri_of d = option_and_then (text_at REGISTRY_URI.now) (get MIDDLEWARE.now d)
+uri_of d = option_and_then (text_at registry_uri_key) (get middleware_key d)
 
 unfoldable pub config_of : Data → ConfigValue
 config_of d = record {
-  participant_name = text_at PARTICIPANT_NAME.now d;
+  participant_name = text_at participant_name_key d;
   can = list_of Can d;
   ethernet = list_of Ethernet d;
   lin = list_of Lin d;
@@ -90,7 +89,7 @@ unfoldable pub list_unused : List ℕ → Data → ServiceKind → List Warning
 list_unused path d kind = entries_unused kind (key_at path (row_of kind).list) 0 (items_at (row_of kind).list d)
 
 unfoldable pub middleware_unused : List ℕ → Data → List Warning
-middleware_unused path d = unwrap_or (option_map (unused Middleware (key_at path MIDDLEWARE.now)) (get MIDDLEWARE.now d)) []
+middleware_unused path d = unwrap_or (option_map (unused Middleware (key_at path middleware_key)) (get middleware_key d)) []
 
 unfoldable pub warnings_of : List ℕ → Data → List Warning
 warnings_of path d = unused Root path d ++ (flat_map (list_unused path d) kinds ++ middleware_unused path d)
@@ -118,7 +117,7 @@ unfoldable pub missing_fault : List ℕ → List ℕ → Data → Option ConfigF
 missing_fault path key d = if is_none (get key d) then Some (Missing (key_at path key)) else None
 
 unfoldable pub double_fault : List ℕ → List ConfigEntry → Data → Option ConfigFault
-double_fault path earlier d = if is_new earlier (name_of d) then None else Some (Double (key_at path NAME.now))
+double_fault path earlier d = if is_new earlier (name_of d) then None else Some (Double (key_at path name_key))
 
 abbrev pub number_fault : List ℕ → Option ℕ → Option ConfigFault
 number_fault path None = Some (WrongType path)
@@ -128,14 +127,14 @@ number_fault path (Some n) = if nat_lt n 2 then None else Some (BadValue path)
 unfoldable pub history_fault : ServiceKind → List ℕ → Data → Option ConfigFault
 history_fault kind path d =
     if (row_of kind).has_history
-    then option_and_then (λ v. number_fault (key_at path HISTORY.now) (whole v)) (get HISTORY.now d)
+    then option_and_then (λ v. number_fault (key_at path history_key) (whole v)) (get history_key d)
     else None
 
 -- the name of an entry behind these
 unfoldable pub entry_name_fault : List ℕ → List ConfigEntry → Data → Option ConfigFault
 entry_name_fault path earlier d = first_of (
-    text_fault is_name path NAME.now d
-    ∷ missing_fault path NAME.now d
+    text_fault is_name path name_key d
+    ∷ missing_fault path name_key d
     ∷ double_fault path earlier d
     ∷ [])
 
@@ -164,15 +163,15 @@ unfoldable pub list_fault : List ℕ → Data → ServiceKind → Option ConfigF
 list_fault path d kind = option_and_then (λ v. array_fault kind (key_at path (row_of kind).list) (as_array v)) (get (row_of kind).list d)
 
 abbrev pub middleware_fault_at : List ℕ → Data → Option ConfigFault
-middleware_fault_at path d = first_of (object_fault path d ∷ text_fault is_address path REGISTRY_URI.now d ∷ [])
+middleware_fault_at path d = first_of (object_fault path d ∷ text_fault is_address path registry_uri_key d ∷ [])
 
 unfoldable pub middleware_fault : List ℕ → Data → Option ConfigFault
-middleware_fault path d = option_and_then (middleware_fault_at (key_at path MIDDLEWARE.now)) (get MIDDLEWARE.now d)
+middleware_fault path d = option_and_then (middleware_fault_at (key_at path middleware_key)) (get middleware_key d)
 
 unfoldable pub fault_of : List ℕ → Data → Option ConfigFault
 fault_of path d = first_of (
     object_fault path d
-    ∷ text_fault is_name path PARTICIPANT_NAME.now d
+    ∷ text_fault is_name path participant_name_key d
     ∷ (map (list_fault path d) kinds ++ middleware_fault path d ∷ []))
 
 -- ---- the reading

@@ -4,10 +4,9 @@ use Rattle.std.specs.Prelude.{ℕ, Bool, List, [], ◌∷◌, Option, Some, None
 use Rattle.serde_json.specs.Data.{Data, unsigned, number, string, array, object, Items, no_items, item, Members, no_members, put}
 use Rattle.serde_json.specs.Written.{compact_text}
 use Rattle.sk_msg.specs.declared.service.ServiceKind.{ServiceKind}
-use Rattle.sk_config.specs.Keys.{kinds, row_of}
+use Rattle.sk_config.specs.Keys.{kinds, row_of, participant_name_key, middleware_key, name_key, history_key, registry_uri_key}
 use Rattle.sk_config.specs.Configs.{ConfigValue, entries_of}
 use Rattle.sk_config.specs.declared.config.ConfigEntry.{ConfigEntry}
-use Rattle.sk_config.specs.declared.keys.TheConstants.{PARTICIPANT_NAME, MIDDLEWARE, NAME, HISTORY, REGISTRY_URI}
 
 -- the members, with what is present at this key
 unfoldable pub put_some : List ℕ → Option Data → Members → Members
@@ -20,9 +19,9 @@ history_data history = number (unsigned (if history then 1 else 0))
 
 unfoldable pub entry_data : ServiceKind → ConfigEntry → Data
 entry_data kind entry = object (
-    put_some HISTORY.now (option_map history_data entry.history)
+    put_some history_key (option_map history_data entry.history)
     (put_some (row_of kind).target (option_map string entry.target)
-    (put_some NAME.now (Some (string entry.name)) no_members)))
+    (put_some name_key (Some (string entry.name)) no_members)))
 
 abbrev pub entries_data : ServiceKind → List ConfigEntry → Items
 entries_data kind [] = no_items
@@ -38,13 +37,13 @@ put_lists config [] ms = ms
 put_lists config (kind ∷ later) ms = put_lists config later (put_some (row_of kind).list (list_data kind (entries_of config kind)) ms)
 
 unfoldable pub middleware_data : List ℕ → Data
-middleware_data uri = object (put_some REGISTRY_URI.now (Some (string uri)) no_members)
+middleware_data uri = object (put_some registry_uri_key (Some (string uri)) no_members)
 
 unfoldable pub config_data : ConfigValue → Data
 config_data config = object (
-    put_some MIDDLEWARE.now (option_map middleware_data config.registry_uri)
+    put_some middleware_key (option_map middleware_data config.registry_uri)
     (put_lists config kinds
-    (put_some PARTICIPANT_NAME.now (option_map string config.participant_name) no_members)))
+    (put_some participant_name_key (option_map string config.participant_name) no_members)))
 
 unfoldable pub canonical : ConfigValue → List ℕ
 canonical config = compact_text (config_data config)

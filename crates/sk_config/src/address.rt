@@ -2,10 +2,9 @@
 
 ghost use Rattle.std.specs.Prelude.{◌≡◌};
 ghost use Rattle.std.specs.List.{list_all};
-ghost use Rattle.std.specs.Char.{is_ascii_digit};
 ghost use Rattle.sk_config.specs.Configs as spec;
 
-use sk_base::Text;
+use sk_base::{Text, is_digits};
 
 /// What each address begins with.
 const SCHEME: &str = "silkit://";
@@ -59,11 +58,4 @@ fn is_port(port: &str) -> bool
         Ok(number) => number >= 1,
         Err(_) => false,
     }
-}
-
-/// Whether each byte is a decimal digit.
-fn is_digits(text: &str) -> bool
-    ensures { result ≡ list_all is_ascii_digit text.now }
-{
-    text.as_bytes().iter().all(|byte| byte.is_ascii_digit())
 }

@@ -1,7 +1,5 @@
 //! What a configuration says.
 
-ghost use Rattle.std.specs.Prelude.{◌≡◌, IfOk, IsTrue, option_map};
-
 use crate::warning::Warnings;
 use sk_base::{Name, Text};
 use sk_msg::ServiceKind;
@@ -10,6 +8,7 @@ use std::marker::Model;
 /// What is said of the service of this name and of the list's kind.
 #[derive(Debug, Drop)]
 pub struct ConfigEntry {
+    /// The service's name. In a [`Config`] no other entry of its list has it.
     pub name: Name,
     /// Its network, its topic or its function, by its kind.
     pub target: Option<Name>,
@@ -68,7 +67,10 @@ impl Model for Config {
 /// A configuration with its warnings.
 #[derive(Debug, Drop)]
 pub struct ConfigRead {
+    /// What the file says.
     pub config: Config,
+    /// The keys that were passed over, object by object in the order of the table of keys, and in
+    /// each object in byte order.
     pub warnings: Warnings,
 }
 

@@ -1,5 +1,6 @@
-//! The table of keys. Each key's text stands here alone: the reader, the writer and the definition
-//! of the format go by it.
+//! The table of keys. In the code each key's text stands here alone, and the reader and the writer
+//! go by it. The contracts go by the texts and the order of the table as `specs/Keys.antt` has them
+//! written out, so a text or an order that differs from those isn't proved.
 
 ghost use Rattle.std.specs.Prelude.{◌≡◌};
 ghost use Rattle.sk_config.specs.Keys as spec;
@@ -7,34 +8,49 @@ ghost use Rattle.sk_config.specs.Keys as spec;
 use sk_msg::ServiceKind::{self, Can, Client, Ethernet, Lin, Publisher, Server, Subscriber};
 use std::marker::Model;
 
+/// Of the root: the participant's name, in place of the scenario's.
 pub const PARTICIPANT_NAME: &str = "ParticipantName";
 
+/// Of the root: the list of CAN controllers.
 pub const CAN_CONTROLLERS: &str = "CanControllers";
 
+/// Of the root: the list of Ethernet controllers.
 pub const ETHERNET_CONTROLLERS: &str = "EthernetControllers";
 
+/// Of the root: the list of LIN controllers.
 pub const LIN_CONTROLLERS: &str = "LinControllers";
 
+/// Of the root: the list of publishers.
 pub const DATA_PUBLISHERS: &str = "DataPublishers";
 
+/// Of the root: the list of subscribers.
 pub const DATA_SUBSCRIBERS: &str = "DataSubscribers";
 
+/// Of the root: the list of servers.
 pub const RPC_SERVERS: &str = "RpcServers";
 
+/// Of the root: the list of clients.
 pub const RPC_CLIENTS: &str = "RpcClients";
 
+/// Of the root: the object that says how the registry is reached.
 pub const MIDDLEWARE: &str = "Middleware";
 
+/// Of each entry: the service's name.
 pub const NAME: &str = "Name";
 
+/// Of a controller's entry: its network.
 pub const NETWORK: &str = "Network";
 
+/// Of a publisher's or subscriber's entry: its topic.
 pub const TOPIC: &str = "Topic";
 
+/// Of a server's or client's entry: its function.
 pub const FUNCTION_NAME: &str = "FunctionName";
 
+/// Of a publisher's entry: whether it keeps its last publication, 0 or 1.
 pub const HISTORY: &str = "History";
 
+/// Of the middleware: the registry's address.
 pub const REGISTRY_URI: &str = "RegistryUri";
 
 /// The kinds whose services have a list, in the order in which the lists are read.
@@ -126,9 +142,11 @@ impl Row {
 /// An object of the file that has keys of its own.
 #[derive(Clone, Copy, Debug)]
 pub enum Object {
+    /// The whole file.
     Root,
     /// An entry of the list of this kind.
     Entry(ServiceKind),
+    /// What is said of the middleware.
     Middleware,
 }
 

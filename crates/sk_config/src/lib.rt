@@ -18,17 +18,17 @@
 //! ```
 #![tactic(auto)]
 
-pub mod address;
-pub mod config;
-pub mod fault;
-pub mod keys;
+mod address;
+mod config;
+mod fault;
+mod keys;
 pub mod laws;
-pub mod overrides;
-pub mod path;
+mod overrides;
+mod path;
 mod read;
 #[cfg(test)]
 mod tests;
-pub mod warning;
+mod warning;
 mod write;
 
 pub use address::is_address;

@@ -2,7 +2,7 @@
 
 ghost use Rattle.std.specs.Prelude.{◌≡◌, ◌++◌, [], map, IfOk, OnOk, OnErr, option_map, unwrap_or};
 ghost use Rattle.sk_config.specs.Applied as spec;
-ghost use Rattle.sk_config.specs.Applied.{entry_for, overridden, is_served, entries_unserved, list_unserved, unserved};
+ghost use Rattle.sk_config.specs.Applied.{entry_for, overridden, entries_unserved, list_unserved, unserved};
 ghost use Rattle.std.specs.List.{flat_map};
 
 use crate::config::{Config, ConfigEntry};
@@ -10,7 +10,7 @@ use crate::keys::{KINDS, Row};
 use crate::path::Path;
 use crate::warning::{Warning, Warnings};
 use sk_base::{Name, WantOfMemory};
-use sk_msg::{Label, Service, ServiceKind, Spec};
+use sk_msg::{Service, ServiceKind, Spec, copy_labels};
 use std::alloc::Global;
 
 /// Overrides what the services speak of, and their history, by the entries of the same kind and
@@ -103,16 +103,6 @@ fn with_topic(alloc: Global, spec: &Spec, topic: &Option<Name>) -> Result<Spec, 
     };
     let labels = copy_labels(alloc, spec.labels())?;
     Ok(Spec::with_labels(topic, spec.media().copy(alloc)?, labels))
-}
-
-fn copy_labels(alloc: Global, labels: &[Label]) -> Result<Vec<Label>, WantOfMemory>
-    ensures { IfOk result (λ copies. copies.items ≡ labels.now) }
-{
-    let mut copies = Vec::new(alloc);
-    for label in labels {
-        copies.push(label.copy(alloc)?)?;
-    }
-    Ok(copies)
 }
 
 /// Notes the entries of these kinds without a service.

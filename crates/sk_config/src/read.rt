@@ -9,7 +9,7 @@ ghost use Rattle.sk_config.specs.Configs as spec;
 ghost use Rattle.sk_config.specs.Keys.{row_of};
 ghost use Rattle.sk_config.specs.declared.keys.Object.TheVariants as Object;
 ghost use Rattle.sk_msg.specs.Each.{each_after};
-ghost use Rattle.sk_config.specs.Reading.{json_of, reading, reading_at, fault_of, object_fault, unused, unused_in, text_fault, text_at, history_fault, history_of, entry_name_fault, name_of, entry_fault, entry_of, entries_fault, entries_in, entries_unused, list_fault, list_of, list_unused, middleware_fault, middleware_unused, uri_of};
+ghost use Rattle.sk_config.specs.Reading.{json_of, reading, reading_at, object_fault, unused, unused_in, text_fault, text_at, history_fault, history_of, entry_name_fault, name_of, entry_fault, entry_of, entries_fault, entries_in, entries_unused, list_fault, list_of, list_unused, middleware_fault, middleware_unused, uri_of};
 ghost use Rattle.sk_config.specs.Outcomes.{Reads, Refuses};
 
 use crate::address::is_address;

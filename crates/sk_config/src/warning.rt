@@ -1,7 +1,6 @@
 //! What a configuration says in vain.
 
-ghost use Rattle.std.specs.Prelude.{◌≡◌, List, IfOk};
-ghost use Rattle.std.specs.String.{string_bytes};
+ghost use Rattle.std.specs.Prelude.{◌≡◌, List};
 ghost use Rattle.sk_config.specs.declared.warning.Warning.{Warning};
 
 use crate::path::Path;
@@ -12,6 +11,7 @@ use std::marker::Model;
 /// A place in a configuration that has no effect.
 #[derive(Debug, Drop)]
 pub struct Warning {
+    /// Where in the file the place is.
     pub path: Path,
     /// Whether this is a key that was passed over. Else it is an entry without a service.
     pub unused: bool,
@@ -58,19 +58,21 @@ impl Model for Warnings {
 }
 
 impl Warnings {
+    /// These warnings, in this order.
     pub fn new(warnings: Vec<Warning>) -> Warnings
         ensures { result ≡ warnings.items }
     {
         Warnings { warnings }
     }
 
+    /// The list.
     pub fn as_slice(&self) -> &[Warning]
         ensures { result.now ≡ self.now }
     {
         self.warnings.as_slice()
     }
 
-    /// The same list, to be changed.
+    /// The list itself, to be changed.
     pub fn into_vec(self) -> Vec<Warning>
         ensures { result.items ≡ self }
     {

@@ -1,11 +1,11 @@
 //! Writing: the one canonical text of a configuration.
 
-ghost use Rattle.std.specs.Prelude.{◌≡◌, Some, Ok, [], IfOk, OnOk, IsTrue, option_map};
+ghost use Rattle.std.specs.Prelude.{◌≡◌, Ok, [], IfOk, OnOk, IsTrue};
 ghost use Rattle.sk_config.specs.Configs.{is_config};
 ghost use Rattle.std.specs.String.{string_bytes};
 ghost use Rattle.serde_json.specs.Data.{put, string};
 ghost use Rattle.serde_json.specs.View.{view, items_view, members_view};
-ghost use Rattle.sk_config.specs.Written.{put_some, history_data, entry_data, entries_data, list_data, middleware_data, config_data, canonical};
+ghost use Rattle.sk_config.specs.Written.{put_some, entry_data, entries_data, list_data, middleware_data, config_data, canonical};
 ghost use Rattle.sk_config.specs.Written as spec;
 ghost use Rattle.sk_config.specs.Reading.{reading};
 ghost use Rattle.sk_config.specs.Keys.{row_of};

@@ -30,7 +30,8 @@ pub fn next_state(coordinated: bool, state: State, view: &SystemView, known: Kno
     }
 }
 
-/// Whether all that are required have reached this state, which is asked of a coordinated participant alone.
+/// Whether all that are required have reached this state, which is asked of a coordinated
+/// participant alone.
 fn are_there(coordinated: bool, view: &SystemView, state: State) -> bool
     ensures { result ≡ are_there coordinated (view_reached view.now) state }
 {

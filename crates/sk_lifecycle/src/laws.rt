@@ -8,8 +8,8 @@ ghost use Rattle.sk_msg.specs.States.{state_number, state_of};
 ghost use Rattle.sk_msg.specs.Edges.{has_edge, has_edge_of, IsWalk};
 ghost use Rattle.sk_lifecycle.specs.Course.{Call, start, after_calls, passed, last_of, asks_for};
 
-/// Whatever is called on a lifecycle, in whatever order, the states that it passes are a walk of the
-/// graph from its start to the state that it is in.
+/// Whatever is called on a lifecycle, in whatever order, the states that it passes are a walk of
+/// the graph from its start to the state that it is in.
 pub fn states_are_a_walk()
     ensures walk { (coordinated : Bool) (calls : List Call) →
         IsWalk (ServicesCreated ∷ passed (start coordinated) calls) }

@@ -1,12 +1,12 @@
 //! The lifecycle of a participant.
 //!
-//! A [`Lifecycle`] is the state that a participant is in, and changes it only along the edges of the
-//! graph: by a command, by an entry, or on in the chain where what the next state waits for holds. What
-//! has no edge is refused with the present state and changes nothing. So the states that it passes are
-//! a walk of the graph, whatever is called on it: `laws::states_are_a_walk`.
+//! A [`Lifecycle`] is the state that a participant is in, and changes it only along the edges of
+//! the graph: by a command, by an entry, or on in the chain where what the next state waits for
+//! holds. What has no edge is refused with the present state and changes nothing. So the states
+//! that it passes are a walk of the graph, whatever is called on it: `laws::states_are_a_walk`.
 //!
-//! No call takes memory. A command and an entry cost one look at the table of 30 edges, an advance at
-//! most one look at those that are required.
+//! No call takes memory. A command and an entry cost one look at the table of 30 edges, an advance
+//! at most one look at those that are required.
 //!
 //! ```text
 //! let mut lifecycle = Lifecycle::new(true);
@@ -17,9 +17,9 @@
 
 mod chain;
 mod edges;
-pub mod known;
+mod known;
 pub mod laws;
-pub mod lifecycle;
+mod lifecycle;
 
 pub use known::Known;
 pub use lifecycle::Lifecycle;

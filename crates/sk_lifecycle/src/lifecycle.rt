@@ -29,7 +29,8 @@ impl Model for Lifecycle {
 }
 
 impl Lifecycle {
-    /// A lifecycle at its start, in ServicesCreated. A coordinated one waits for all that are required.
+    /// A lifecycle at its start, in ServicesCreated. A coordinated one waits for all that are
+    /// required.
     pub fn new(coordinated: bool) -> Lifecycle
         ensures { result ≡ start coordinated }
     {

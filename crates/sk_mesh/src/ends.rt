@@ -80,8 +80,8 @@ impl Ends {
         self.links.len()
     }
 
-    /// Pushes a message to the ring to this peer, another one of the mesh. Where no slot is known to
-    /// be free it looks at the ring, and hands the message back where there is none.
+    /// Pushes a message to the ring to this peer, another one of the mesh. Where no slot is known
+    /// to be free it looks at the ring, and hands the message back where there is none.
     pub fn push(&mut self, peer: u32, message: Message) -> Result<(), Message>
         requires { IsPeer (place self.old) peer }
         ensures only { OnlyPushes self.old self.new peer }

@@ -10,7 +10,8 @@ ghost use Rattle.sk_mesh.specs.Ends.{pushed, popped, IsFull, IsEmpty, PushesAlon
 use crate::ends::Ends;
 use sk_msg::Message;
 
-/// Pushes a message from one participant to another. It is handed back exactly where the ring is full.
+/// Pushes a message from one participant to another. It is handed back exactly where the ring is
+/// full.
 pub fn push_beside(mine: &mut Ends, other: &mut Ends, message: Message) -> Result<(), Message>
     requires { AreOfOneMesh (place mine.old) (place other.old) }
     ensures exact { IsErr result ↔ IsFull mine.old other.old }
@@ -26,7 +27,8 @@ pub fn push_beside(mine: &mut Ends, other: &mut Ends, message: Message) -> Resul
     answer
 }
 
-/// Pops a message that one participant has of another. There is none exactly where the ring is empty.
+/// Pops a message that one participant has of another. There is none exactly where the ring is
+/// empty.
 pub fn pop_beside(mine: &mut Ends, other: &mut Ends) -> Option<Message>
     requires { AreOfOneMesh (place mine.old) (place other.old) }
     ensures exact { IsNone result ↔ IsEmpty other.old mine.old }

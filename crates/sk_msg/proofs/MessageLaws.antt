@@ -6,7 +6,7 @@ use Rattle.std.proofs.lemmas.List.Elements.{All-head, All-tail}
 use Rattle.sk_base.specs.Ranges.{is_name}
 use Rattle.sk_msg.specs.Each.{each_after}
 use Rattle.sk_msg.specs.declared.label.Label.{Label}
-use Rattle.sk_msg.specs.Specs.{is_newly_keyed, are_labels}
+use Rattle.sk_msg.specs.Specs.{is_newly_keyed}
 use Rattle.sk_msg.specs.Rules.{IsNamed, is_new_label, is_new_name, is_next_name}
 
 pub ruleset rules = (and_from, lt-ltb)

@@ -75,22 +75,22 @@ is_unknown checksums.Unknown = true
 is_unknown checksums.Classic = false
 is_unknown checksums.Enhanced = false
 
--- with this status there is data
+-- with this status there are bytes
 abbrev pub is_received : LinStatus → Bool
 is_received statuses.RxOk = true
 is_received statuses.RxError = false
 is_received statuses.RxNoResponse = false
 is_received statuses.Wakeup = false
 
--- with this mode there is data
+-- with this mode there are bytes
 abbrev pub is_sent : LinMode → Bool
 is_sent modes.Unused = false
 is_sent modes.Rx = false
 is_sent modes.TxUnconditional = true
 
--- at most 8 bytes; without data neither bytes nor a checksum
-unfoldable pub is_lin_data : Bool → LinChecksum → List ℕ → Bool
-is_lin_data carries checksum bytes = nat_le (length bytes) 8 && (carries || (is_unknown checksum && length bytes == 0))
+-- at most 8 bytes; without a payload neither bytes nor a checksum
+unfoldable pub is_lin_payload : Bool → LinChecksum → List ℕ → Bool
+is_lin_payload carries checksum bytes = nat_le (length bytes) 8 && (carries || (is_unknown checksum && length bytes == 0))
 
 -- in the order of the fields, so that a rule stands where the wire judges it
 unfoldable pub is_message : Content → Bool
@@ -107,15 +107,15 @@ is_message (Workflow required) = is_required_count (length required) && each_aft
 is_message Abort = true
 is_message (Can service stamp mark f) =
     is_u32 service && (is_time stamp && (is_mark mark
-    && (is_u32 f.id && (any f.extended && (is_payload f.«data» && is_can_frame f.id f.extended f.fd f.«data»)))))
+    && (is_u32 f.id && (any f.extended && (is_payload f.payload && is_can_frame f.id f.extended f.fd f.payload)))))
 is_message (Eth service stamp mark bytes) =
     is_u32 service && (is_time stamp && (is_mark mark && (is_payload bytes && is_eth_frame bytes)))
 is_message (Lin service stamp mark f) =
     is_u32 service && (is_time stamp && (is_mark mark
-    && (is_lin_id f.id && (any f.checksum && (any f.status && (is_payload f.«data» && is_lin_data (is_received f.status) f.checksum f.«data»))))))
+    && (is_lin_id f.id && (any f.checksum && (any f.status && (is_payload f.payload && is_lin_payload (is_received f.status) f.checksum f.payload))))))
 is_message (LinResponse service stamp mark r) =
     is_u32 service && (is_time stamp && (is_mark mark
-    && (is_lin_id r.id && (any r.mode && (any r.checksum && (is_payload r.«data» && is_lin_data (is_sent r.mode) r.checksum r.«data»))))))
+    && (is_lin_id r.id && (any r.mode && (any r.checksum && (is_payload r.payload && is_lin_payload (is_sent r.mode) r.checksum r.payload))))))
 is_message (Publish service stamp mark bytes) = is_u32 service && (is_time stamp && (is_mark mark && is_payload bytes))
 is_message (Call service stamp mark call bytes) =
     is_u32 service && (is_time stamp && (is_mark mark && (is_call call && is_payload bytes)))

@@ -23,6 +23,7 @@ impl Model for Announced {
 }
 
 impl Announced {
+    /// The service in a box of its own.
     pub fn new(alloc: Global, service: Service) -> Result<Announced, WantOfMemory>
         ensures { IfOk result (λ announced. announced ≡ service) }
     {
@@ -31,6 +32,7 @@ impl Announced {
         })
     }
 
+    /// The service in the box.
     pub fn service(&self) -> &Service
         ensures { result.now ≡ self.now }
     {

@@ -10,61 +10,74 @@ use sk_base::{Bytes, Name, SimTime, Text};
 
 /// What a message says, before its rules are looked at.
 ///
-/// What goes from service to service names the sender's own service, and has the virtual time at
-/// which it was sent and its mark: the number of the step that sent it, 0 outside of steps, at
-/// most 2^63.
+/// What goes from service to service has the same three fields in front: the number of the sender's
+/// own service, the stamp and the mark. The stamp is the virtual time at which it was sent, in ns;
+/// the mark is the number of the step that sent it, 0 outside of steps, at most 2^63.
 #[derive(Debug, Drop)]
 pub enum Content {
     /// Who speaks. It comes first on a link.
     Hello {
+        /// The sender's name.
         name: Name,
+        /// What the sender is to its peers.
         role: Role,
         /// Where it listens, for the registry; empty on a link between peers.
         address: Text,
     },
     /// Nothing follows.
     Leave,
-    /// The next step begins at this virtual time.
+    /// The sender's next step.
     NextStep {
+        /// Where it begins, in ns of virtual time.
         at: SimTime,
-        /// The step's size, 1 to 2^60 nanoseconds.
+        /// Its size, 1 to 2^60 ns of virtual time.
         duration: u64,
     },
     /// The sender has this service. Its history isn't announced: it is false.
     ServiceAdd {
+        /// Its number is 0 to 63.
         service: Announced,
     },
     /// All services were told.
     ServicesEnd,
     /// The sender is in this state, which isn't Invalid.
     Status {
+        /// What the sender is at.
         state: State,
-        /// From when on the sender takes no step, after an accepted Stop; else 0.
+        /// With the Stopping of an accepted stop a bound in ns of virtual time: coordinated peers
+        /// take their steps that begin below it, and no others. Everywhere else it is 0, and bounds
+        /// nothing.
         until: SimTime,
     },
     /// Whom the simulation needs: 1 to 32 distinct names.
     Workflow {
+        /// Their names.
         required: Names,
     },
     /// The simulation is to end at once.
     Abort,
+    /// A CAN frame that the sender's controller sends.
     Can {
         service: u32,
         stamp: SimTime,
         mark: u64,
+        /// Its identifier and its bytes fit its format.
         frame: CanFrame,
     },
+    /// An Ethernet frame that the sender's controller sends.
     Eth {
         service: u32,
         stamp: SimTime,
         mark: u64,
-        /// 60 to 1,518 bytes.
-        data: Bytes,
+        /// The frame, 60 to 1,518 bytes.
+        payload: Bytes,
     },
+    /// A LIN frame as it was on the bus.
     Lin {
         service: u32,
         stamp: SimTime,
         mark: u64,
+        /// Its identifier is 0 to 63.
         frame: LinFrame,
     },
     /// How the sender's LIN controller answers a header from now on.
@@ -72,34 +85,42 @@ pub enum Content {
         service: u32,
         stamp: SimTime,
         mark: u64,
+        /// Its identifier is 0 to 63.
         response: LinResponse,
     },
+    /// What the sender's publisher publishes.
     Publish {
         service: u32,
         stamp: SimTime,
         mark: u64,
-        data: Bytes,
+        /// 0 to 4,096 bytes.
+        payload: Bytes,
     },
+    /// A call that the sender's client makes.
     Call {
         service: u32,
         stamp: SimTime,
         mark: u64,
         /// The call's number at its client, 1 to 2^63.
         call: u64,
-        data: Bytes,
+        /// The arguments, 0 to 4,096 bytes.
+        payload: Bytes,
     },
+    /// What the sender's server answers to a call.
     Reply {
         service: u32,
         stamp: SimTime,
         mark: u64,
-        /// The client's service that made the call.
+        /// The number of the service that made the call, at its participant.
         client: u32,
         /// The call's number at its client, 1 to 2^63.
         call: u64,
-        data: Bytes,
+        /// The result, 0 to 4,096 bytes.
+        payload: Bytes,
     },
-    /// The registry doesn't take the newcomer.
+    /// The sender, the registry or a participant, doesn't take the one that said Hello.
     Refuse {
+        /// Why.
         reason: RefuseReason,
     },
 }

@@ -17,8 +17,11 @@ pub enum LabelKind {
 /// A key with a value.
 #[derive(Debug, Drop)]
 pub struct Label {
+    /// What the label is about. The labels of one service have distinct keys.
     pub key: Name,
+    /// What it says of it.
     pub value: Text,
+    /// Whether the other side needs it.
     pub kind: LabelKind,
 }
 
@@ -33,4 +36,15 @@ impl Label {
             kind: self.kind,
         })
     }
+}
+
+/// The same labels again.
+pub fn copy_labels(alloc: Global, labels: &[Label]) -> Result<Vec<Label>, WantOfMemory>
+    ensures { IfOk result (λ copies. copies.items ≡ labels.now) }
+{
+    let mut copies = Vec::new(alloc);
+    for label in labels {
+        copies.push(label.copy(alloc)?)?;
+    }
+    Ok(copies)
 }

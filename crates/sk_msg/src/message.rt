@@ -38,9 +38,9 @@ impl Model for Message {
 }
 
 impl Message {
-    ghost use Rattle.sk_msg.specs.Rules.{is_message, is_step_size, is_service_id, is_told, is_required_count, is_new_name, is_mark, is_call, is_can_frame, is_eth_frame, is_lin_id, is_lin_data, is_received, is_sent};
+    ghost use Rattle.sk_msg.specs.Rules.{is_message, is_step_size, is_service_id, is_told, is_required_count, is_new_name, is_mark, is_call, is_can_frame, is_eth_frame, is_lin_id, is_lin_payload, is_received, is_sent};
 
-    /// The message of these contents.
+    /// The message of these contents, which keep the rules of their kind.
     pub fn new(content: Content) -> Message
         requires { IsTrue (is_message content) }
         ensures { result ≡ content }
@@ -48,7 +48,8 @@ impl Message {
         Message { content }
     }
 
-    /// Who speaks.
+    /// Who speaks: its name, its role, and where it listens. The address is for the registry, and
+    /// empty on a link between peers.
     #[tactic(auto, using(std::proofs::lemmas::Bool::and_from), unfolding(crate::specs::Rules::is_message))]
     pub fn hello(name: Name, role: Role, address: Text) -> Message
         ensures { result ≡ Hello name role address }
@@ -74,7 +75,7 @@ impl Message {
         }
     }
 
-    /// The next step begins at this time and takes 1 to 2^60 nanoseconds.
+    /// The next step begins at this time and takes so long, 1 to 2^60. Both are ns of virtual time.
     #[tactic(auto, using(std::proofs::lemmas::Bool::and_from), unfolding(crate::specs::Rules::is_message))]
     pub fn next_step(at: SimTime, duration: u64) -> Message
         requires { IsTrue (is_step_size duration) }
@@ -86,7 +87,7 @@ impl Message {
         }
     }
 
-    /// The sender has this service, of which the history isn't told.
+    /// The sender has this service. Its number is 0 to 63, and its history false: that isn't told.
     #[tactic(auto, using(crate::proofs::MessageLaws::services), unfolding(crate::specs::Rules::is_message))]
     pub fn service_add(service: Announced) -> Message
         requires id { IsTrue (is_service_id service.id) }
@@ -104,7 +105,7 @@ impl Message {
     }
 
     /// All services were told.
-    #[tactic(auto, using(crate::proofs::MessageLaws::rules), unfolding(crate::specs::Rules::is_message, crate::specs::Rules::is_u32))]
+    #[tactic(auto, unfolding(crate::specs::Rules::is_message))]
     pub fn services_end() -> Message
         ensures { result ≡ ServicesEnd }
     {
@@ -113,7 +114,9 @@ impl Message {
         }
     }
 
-    /// The sender is in this state, which isn't Invalid. After an accepted Stop `until` says from when on it takes no step.
+    /// The sender is in this state, which isn't Invalid. In the Stopping of an accepted stop
+    /// `until` is the bound below which coordinated peers still begin steps, in ns of virtual time;
+    /// else it is 0, and bounds nothing.
     #[tactic(auto, using(crate::proofs::MessageLaws::rules), unfolding(crate::specs::Rules::is_message, crate::specs::Rules::is_u32))]
     pub fn status(state: State, until: SimTime) -> Message
         requires told { IsTrue (is_told state) }
@@ -139,7 +142,7 @@ impl Message {
     }
 
     /// The simulation is to end at once.
-    #[tactic(auto, using(crate::proofs::MessageLaws::rules), unfolding(crate::specs::Rules::is_message, crate::specs::Rules::is_u32))]
+    #[tactic(auto, unfolding(crate::specs::Rules::is_message))]
     pub fn abort() -> Message
         ensures { result ≡ Abort }
     {
@@ -148,15 +151,17 @@ impl Message {
         }
     }
 
-    /// A CAN frame. The mark is at most 2^63.
+    /// A CAN frame from this service of the sender. The stamp is when it was sent, in ns of virtual
+    /// time; the mark is at most 2^63. The identifier is below 2^11, or below 2^29 where it is
+    /// extended; there are 0 to 8 bytes, and of CAN FD also 12, 16, 20, 24, 32, 48 or 64.
     #[tactic(auto, using(crate::proofs::MessageLaws::rules), unfolding(crate::specs::Rules::is_message, crate::specs::Rules::is_u32))]
     pub fn can(service: u32, stamp: SimTime, mark: u64, frame: CanFrame) -> Message
         requires mark { IsTrue (is_mark mark) }
-        requires frame { IsTrue (is_can_frame frame.id frame.extended frame.fd frame.«data») }
+        requires frame { IsTrue (is_can_frame frame.id frame.extended frame.fd frame.payload) }
         ensures { result ≡ Can service stamp mark frame }
     {
         let _ns = stamp.ns();
-        let _data = frame.data.as_slice();
+        let _payload = frame.payload.as_slice();
         Message {
             content: Content::Can {
                 service,
@@ -167,35 +172,38 @@ impl Message {
         }
     }
 
-    /// An Ethernet frame of 60 to 1,518 bytes.
+    /// An Ethernet frame of 60 to 1,518 bytes from this service of the sender. The stamp is when it
+    /// was sent, in ns of virtual time; the mark is at most 2^63.
     #[tactic(auto, using(crate::proofs::MessageLaws::rules), unfolding(crate::specs::Rules::is_message, crate::specs::Rules::is_u32))]
-    pub fn eth(service: u32, stamp: SimTime, mark: u64, data: Bytes) -> Message
+    pub fn eth(service: u32, stamp: SimTime, mark: u64, payload: Bytes) -> Message
         requires mark { IsTrue (is_mark mark) }
-        requires frame { IsTrue (is_eth_frame «data») }
-        ensures { result ≡ Eth service stamp mark «data» }
+        requires frame { IsTrue (is_eth_frame payload) }
+        ensures { result ≡ Eth service stamp mark payload }
     {
         let _ns = stamp.ns();
-        let _data = data.as_slice();
+        let _payload = payload.as_slice();
         Message {
             content: Content::Eth {
                 service,
                 stamp,
                 mark,
-                data,
+                payload,
             },
         }
     }
 
-    /// A LIN frame.
+    /// A LIN frame, told by this service of the sender. The stamp is when it was sent, in ns of
+    /// virtual time; the mark is at most 2^63. The identifier is at most 63; there are at most 8
+    /// bytes, and with a status other than RxOk none, and the checksum is Unknown.
     #[tactic(auto, using(crate::proofs::MessageLaws::rules), unfolding(crate::specs::Rules::is_message, crate::specs::Rules::is_u32))]
     pub fn lin(service: u32, stamp: SimTime, mark: u64, frame: LinFrame) -> Message
         requires mark { IsTrue (is_mark mark) }
         requires id { IsTrue (is_lin_id frame.id) }
-        requires data { IsTrue (is_lin_data (is_received frame.status) frame.checksum frame.«data») }
+        requires payload { IsTrue (is_lin_payload (is_received frame.status) frame.checksum frame.payload) }
         ensures { result ≡ Lin service stamp mark frame }
     {
         let _ns = stamp.ns();
-        let _data = frame.data.as_slice();
+        let _payload = frame.payload.as_slice();
         Message {
             content: Content::Lin {
                 service,
@@ -206,16 +214,19 @@ impl Message {
         }
     }
 
-    /// How a LIN controller answers a header from now on.
+    /// How this LIN service of the sender answers a header from now on. The stamp is when it was
+    /// sent, in ns of virtual time; the mark is at most 2^63. The identifier is at most 63; there
+    /// are at most 8 bytes, and with a mode other than TxUnconditional none, and the checksum is
+    /// Unknown.
     #[tactic(auto, using(crate::proofs::MessageLaws::rules), unfolding(crate::specs::Rules::is_message, crate::specs::Rules::is_u32))]
     pub fn lin_response(service: u32, stamp: SimTime, mark: u64, response: LinResponse) -> Message
         requires mark { IsTrue (is_mark mark) }
         requires id { IsTrue (is_lin_id response.id) }
-        requires data { IsTrue (is_lin_data (is_sent response.mode) response.checksum response.«data») }
+        requires payload { IsTrue (is_lin_payload (is_sent response.mode) response.checksum response.payload) }
         ensures { result ≡ contents.LinResponse service stamp mark response }
     {
         let _ns = stamp.ns();
-        let _data = response.data.as_slice();
+        let _payload = response.payload.as_slice();
         Message {
             content: Content::LinResponse {
                 service,
@@ -226,45 +237,50 @@ impl Message {
         }
     }
 
-    /// A publication.
+    /// A publication of this service of the sender, 0 to 4,096 bytes. The stamp is when it was
+    /// sent, in ns of virtual time; the mark is at most 2^63.
     #[tactic(auto, using(crate::proofs::MessageLaws::rules), unfolding(crate::specs::Rules::is_message, crate::specs::Rules::is_u32))]
-    pub fn publish(service: u32, stamp: SimTime, mark: u64, data: Bytes) -> Message
+    pub fn publish(service: u32, stamp: SimTime, mark: u64, payload: Bytes) -> Message
         requires mark { IsTrue (is_mark mark) }
-        ensures { result ≡ Publish service stamp mark «data» }
+        ensures { result ≡ Publish service stamp mark payload }
     {
         let _ns = stamp.ns();
-        let _data = data.as_slice();
+        let _payload = payload.as_slice();
         Message {
             content: Content::Publish {
                 service,
                 stamp,
                 mark,
-                data,
+                payload,
             },
         }
     }
 
-    /// A call. Its number is 1 to 2^63.
+    /// A call that this service of the sender makes, with 0 to 4,096 bytes. The stamp is when it
+    /// was sent, in ns of virtual time; the mark is at most 2^63; the number of the call is 1 to
+    /// 2^63.
     #[tactic(auto, using(crate::proofs::MessageLaws::rules), unfolding(crate::specs::Rules::is_message, crate::specs::Rules::is_u32))]
-    pub fn call(service: u32, stamp: SimTime, mark: u64, call: u64, data: Bytes) -> Message
+    pub fn call(service: u32, stamp: SimTime, mark: u64, call: u64, payload: Bytes) -> Message
         requires mark { IsTrue (is_mark mark) }
         requires call { IsTrue (is_call call) }
-        ensures { result ≡ Call service stamp mark call «data» }
+        ensures { result ≡ Call service stamp mark call payload }
     {
         let _ns = stamp.ns();
-        let _data = data.as_slice();
+        let _payload = payload.as_slice();
         Message {
             content: Content::Call {
                 service,
                 stamp,
                 mark,
                 call,
-                data,
+                payload,
             },
         }
     }
 
-    /// The answer to a call of this service of the client.
+    /// What this service of the sender answers, 0 to 4,096 bytes, to the call of that number, 1 to
+    /// 2^63, which the service `client` made. The stamp is when it was sent, in ns of virtual time;
+    /// the mark is at most 2^63.
     #[tactic(auto, using(crate::proofs::MessageLaws::rules), unfolding(crate::specs::Rules::is_message, crate::specs::Rules::is_u32))]
     pub fn reply(
         service: u32,
@@ -272,14 +288,14 @@ impl Message {
         mark: u64,
         client: u32,
         call: u64,
-        data: Bytes,
+        payload: Bytes,
     ) -> Message
         requires mark { IsTrue (is_mark mark) }
         requires call { IsTrue (is_call call) }
-        ensures { result ≡ Reply service stamp mark client call «data» }
+        ensures { result ≡ Reply service stamp mark client call payload }
     {
         let _ns = stamp.ns();
-        let _data = data.as_slice();
+        let _payload = payload.as_slice();
         Message {
             content: Content::Reply {
                 service,
@@ -287,13 +303,13 @@ impl Message {
                 mark,
                 client,
                 call,
-                data,
+                payload,
             },
         }
     }
 
-    /// The registry doesn't take the newcomer.
-    #[tactic(auto, using(crate::proofs::MessageLaws::rules), unfolding(crate::specs::Rules::is_message, crate::specs::Rules::is_u32))]
+    /// The sender, the registry or a participant, doesn't take the one that said Hello.
+    #[tactic(auto, unfolding(crate::specs::Rules::is_message))]
     pub fn refuse(reason: RefuseReason) -> Message
         ensures { result ≡ Refuse reason }
     {
@@ -310,7 +326,7 @@ impl Message {
         &self.content
     }
 
-    /// A second message with the same content.
+    /// The same message again.
     pub fn copy(&self, alloc: Global) -> Result<Message, WantOfMemory>
         ensures { IfOk result (λ copy. copy ≡ self.now) }
     {
@@ -339,6 +355,7 @@ fn see_names(names: &[Name])
     }
 }
 
+/// The same content again.
 fn copy_content(alloc: Global, content: &Content) -> Result<Content, WantOfMemory>
     ensures { IfOk result (λ copy. copy ≡ content.now) }
 {
@@ -384,12 +401,12 @@ fn copy_content(alloc: Global, content: &Content) -> Result<Content, WantOfMemor
             service,
             stamp,
             mark,
-            data,
+            payload,
         } => Ok(Content::Eth {
             service: *service,
             stamp: *stamp,
             mark: *mark,
-            data: data.copy(alloc)?,
+            payload: payload.copy(alloc)?,
         }),
         Content::Lin {
             service,
@@ -417,25 +434,25 @@ fn copy_content(alloc: Global, content: &Content) -> Result<Content, WantOfMemor
             service,
             stamp,
             mark,
-            data,
+            payload,
         } => Ok(Content::Publish {
             service: *service,
             stamp: *stamp,
             mark: *mark,
-            data: data.copy(alloc)?,
+            payload: payload.copy(alloc)?,
         }),
         Content::Call {
             service,
             stamp,
             mark,
             call,
-            data,
+            payload,
         } => Ok(Content::Call {
             service: *service,
             stamp: *stamp,
             mark: *mark,
             call: *call,
-            data: data.copy(alloc)?,
+            payload: payload.copy(alloc)?,
         }),
         Content::Reply {
             service,
@@ -443,14 +460,14 @@ fn copy_content(alloc: Global, content: &Content) -> Result<Content, WantOfMemor
             mark,
             client,
             call,
-            data,
+            payload,
         } => Ok(Content::Reply {
             service: *service,
             stamp: *stamp,
             mark: *mark,
             client: *client,
             call: *call,
-            data: data.copy(alloc)?,
+            payload: payload.copy(alloc)?,
         }),
         Content::Refuse { reason } => Ok(Content::Refuse { reason: *reason }),
     }

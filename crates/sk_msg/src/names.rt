@@ -19,12 +19,14 @@ impl Model for Names {
 }
 
 impl Names {
+    /// These names, in this order. They may be equal, and any number of them.
     pub fn new(names: Vec<Name>) -> Names
         ensures { result ≡ names.items }
     {
         Names { names }
     }
 
+    /// The names in order.
     pub fn as_slice(&self) -> &[Name]
         ensures { result.now ≡ self.now }
     {
@@ -41,6 +43,7 @@ impl Names {
     }
 }
 
+/// The same names again.
 fn copy_names(alloc: Global, names: &[Name]) -> Result<Vec<Name>, WantOfMemory>
     ensures { IfOk result (λ copies. copies.items ≡ names.now) }
 {

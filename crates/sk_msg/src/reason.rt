@@ -1,12 +1,13 @@
-//! Why the registry refuses a participant.
+//! Why a Hello is refused, by the registry or by a participant.
 
-/// The reason, in the order of the numbers.
+/// The reason that a Refuse tells, in the order of the numbers.
 #[derive(Clone, Copy, Debug, PartialEq, Eq)]
 pub enum RefuseReason {
-    /// Another participant has the name.
+    /// The registry says so: another participant has the name.
     NameTaken,
-    /// No further participant has room.
+    /// There is no room: at the registry for one more, or at a participant for one more tool.
     Full,
-    /// The simulation has begun.
+    /// A participant says so: the name is none of its scenario, or its own, or that of a peer which
+    /// it knows already.
     Late,
 }

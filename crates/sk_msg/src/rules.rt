@@ -1,10 +1,10 @@
 //! The rules on fields that no type of a field keeps, as tests.
 
-ghost use Rattle.std.specs.Prelude.{◌≡◌, ◌∷◌, []};
+ghost use Rattle.std.specs.Prelude.{◌≡◌};
 ghost use Rattle.sk_msg.specs.Rules as rules;
 ghost use Rattle.sk_msg.specs.Specs as specs;
 
-use crate::bus::LinChecksum;
+use crate::bus::{LinChecksum, LinMode, LinStatus};
 use crate::label::Label;
 use crate::state::State;
 use sk_base::Name;
@@ -12,6 +12,9 @@ use sk_base::limits::LONGEST_STEP_NS;
 
 /// The highest number of a mark or of a call.
 const HIGHEST_NUMBER: u64 = 1 << 63;
+
+/// The most labels of a service.
+pub const MOST_LABELS: u8 = 16;
 
 /// Whether a step may be so long: 1 to 2^60 nanoseconds of virtual time.
 #[tactic(auto, unfolding(crate::specs::Rules::is_step_size))]
@@ -50,7 +53,7 @@ pub fn is_service_id(id: u32) -> bool
 pub fn is_label_count(count: u8) -> bool
     ensures { result ≡ specs.is_label_count count }
 {
-    count <= 16
+    count <= MOST_LABELS
 }
 
 /// Whether the key stands in none of these labels.
@@ -96,25 +99,28 @@ pub fn is_new_name(names: &[Name], name: &Name) -> bool
 }
 
 /// Whether a CAN frame may be so: its identifier is below 2^11, or below 2^29 where it is
-/// extended; it has 0 to 8 bytes, and of CAN FD also 12, 16, 20, 24, 32, 48 or 64.
+/// extended; it has 0 to 8 bytes, and of CAN FD also 12, 16, 20, 24, 32, 48 or 64. The identifiers
+/// of 11 or 29 bits and the lengths are those of ISO 11898-1.
 #[tactic(auto, unfolding(crate::specs::Rules::is_can_frame))]
-pub fn is_can_frame(id: u32, extended: bool, fd: bool, data: &[u8]) -> bool
-    ensures { result ≡ rules.is_can_frame id extended fd data.now }
+pub fn is_can_frame(id: u32, extended: bool, fd: bool, payload: &[u8]) -> bool
+    ensures { result ≡ rules.is_can_frame id extended fd payload.now }
 {
     let limit = if extended { 1 << 29 } else { 1 << 11 };
-    let len = data.len();
+    let len = payload.len();
     id < limit && (len <= 8 || fd && matches!(len, 12 | 16 | 20 | 24 | 32 | 48 | 64))
 }
 
-/// Whether an Ethernet frame may be so long: 60 to 1,518 bytes.
+/// Whether an Ethernet frame may be so long: 60 to 1,518 bytes. By IEEE 802.3 the shortest frame
+/// has 60 bytes without the 4 of its check sequence, and the longest without a tag 1,518 with them.
+/// Whether the check sequence is there isn't looked at.
 #[tactic(auto, unfolding(crate::specs::Rules::is_eth_frame))]
-pub fn is_eth_frame(data: &[u8]) -> bool
-    ensures { result ≡ rules.is_eth_frame data.now }
+pub fn is_eth_frame(payload: &[u8]) -> bool
+    ensures { result ≡ rules.is_eth_frame payload.now }
 {
-    60 <= data.len() && data.len() <= 1518
+    60 <= payload.len() && payload.len() <= 1518
 }
 
-/// Whether a LIN frame may have this identifier: at most 63.
+/// Whether a LIN frame may have this identifier: at most 63, the six bits of ISO 17987 and LIN 2.x.
 #[tactic(auto, unfolding(crate::specs::Rules::is_lin_id))]
 pub fn is_lin_id(id: u8) -> bool
     ensures { result ≡ rules.is_lin_id id }
@@ -122,15 +128,39 @@ pub fn is_lin_id(id: u8) -> bool
     id <= 63
 }
 
-/// Whether LIN data may be so: at most 8 bytes; where its status or mode carries none, no bytes,
-/// and the checksum is unknown.
-#[tactic(auto, unfolding(crate::specs::Rules::is_lin_data))]
-pub fn is_lin_data(carries: bool, checksum: LinChecksum, data: &[u8]) -> bool
-    ensures { result ≡ rules.is_lin_data carries checksum data.now }
+/// Whether a LIN frame of this status carries bytes: of RxOk alone.
+pub fn is_received(status: LinStatus) -> bool
+    ensures { result ≡ rules.is_received status }
 {
-    data.len() <= 8 && (carries || is_unknown(checksum) && data.is_empty())
+    match status {
+        LinStatus::RxOk => true,
+        LinStatus::RxError => false,
+        LinStatus::RxNoResponse => false,
+        LinStatus::Wakeup => false,
+    }
 }
 
+/// Whether a LIN response of this mode carries bytes: of TxUnconditional alone.
+pub fn is_sent(mode: LinMode) -> bool
+    ensures { result ≡ rules.is_sent mode }
+{
+    match mode {
+        LinMode::Unused => false,
+        LinMode::Rx => false,
+        LinMode::TxUnconditional => true,
+    }
+}
+
+/// Whether the payload of LIN may be so: at most 8 bytes, the most of ISO 17987 and LIN 2.x; where
+/// its status or mode carries none, no bytes, and the checksum is unknown.
+#[tactic(auto, unfolding(crate::specs::Rules::is_lin_payload))]
+pub fn is_lin_payload(carries: bool, checksum: LinChecksum, payload: &[u8]) -> bool
+    ensures { result ≡ rules.is_lin_payload carries checksum payload.now }
+{
+    payload.len() <= 8 && (carries || is_unknown(checksum) && payload.is_empty())
+}
+
+/// Whether it isn't known how the checksum is made.
 fn is_unknown(checksum: LinChecksum) -> bool
     ensures { result ≡ rules.is_unknown checksum }
 {

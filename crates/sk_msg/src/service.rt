@@ -9,12 +9,19 @@ use std::alloc::Global;
 /// What a service is, in the order of the numbers.
 #[derive(Clone, Copy, Debug, PartialEq, Eq)]
 pub enum ServiceKind {
+    /// A controller on a CAN network.
     Can,
+    /// A controller on an Ethernet network.
     Ethernet,
+    /// A controller on a LIN network.
     Lin,
+    /// It publishes on a topic.
     Publisher,
+    /// It receives what is published on a topic.
     Subscriber,
+    /// It answers calls.
     Server,
+    /// It makes calls.
     Client,
 }
 
@@ -23,8 +30,11 @@ pub enum ServiceKind {
 pub struct Service {
     /// Its number at its participant, 0 to 63.
     pub id: u32,
+    /// What it is.
     pub kind: ServiceKind,
+    /// Its name at its participant.
     pub name: Name,
+    /// What it speaks of.
     pub spec: Spec,
     /// Whether a publisher keeps its last publication for those who come later. It isn't announced.
     pub history: bool,

@@ -1,17 +1,13 @@
 //! What a service speaks of: its topic, its media type and its labels.
 
-ghost use Rattle.std.specs.Prelude.{◌≡◌, List, [], length, take, Some, None, IsTrue, IfOk, IfErr, MatchResult};
-ghost use Rattle.sk_msg.specs.declared.label.Label.{Label};
-ghost use Rattle.sk_msg.specs.Specs.{SpecValue, are_labels, double_key, spec_fault};
+ghost use Rattle.std.specs.Prelude.{◌≡◌, [], Some, None, IsTrue, IfOk, MatchResult};
+ghost use Rattle.sk_msg.specs.Specs.{are_labels, double_key, spec_fault};
 
-use crate::label::Label;
-use crate::rules::is_new_key;
+use crate::label::{Label, copy_labels};
+use crate::rules::{MOST_LABELS, is_new_key};
 use sk_base::{Name, Text, WantOfMemory};
 use std::alloc::Global;
 use std::marker::Model;
-
-/// The most labels of a service.
-const MOST_LABELS: usize = 16;
 
 /// A topic, a media type and at most 16 labels of distinct keys. The specification of a bus
 /// controller has its network as topic, an empty media type and no labels.
@@ -71,18 +67,21 @@ impl Spec {
         }
     }
 
+    /// The topic, or the network of a bus controller.
     pub fn topic(&self) -> &Name
         ensures { result.now ≡ self.now.topic }
     {
         &self.topic
     }
 
+    /// The media type; empty with a bus controller.
     pub fn media(&self) -> &Text
         ensures { result.now ≡ self.now.media }
     {
         &self.media
     }
 
+    /// The labels in order: at most 16, of distinct keys.
     pub fn labels(&self) -> &[Label]
         ensures value { result.now ≡ self.now.labels }
         ensures rules { IsTrue (are_labels self.now.labels) }
@@ -108,7 +107,7 @@ fn fault_of(labels: &[Label]) -> Option<SpecFault>
     ensures value { result ≡ spec_fault labels.now }
     ensures fine { result ≡ None → IsTrue (are_labels labels.now) }
 {
-    if labels.len() > MOST_LABELS {
+    if labels.len() > MOST_LABELS as usize {
         return Some(SpecFault::TooMany(labels.len()));
     }
     match first_double(labels) {
@@ -130,14 +129,4 @@ fn first_double(labels: &[Label]) -> Option<usize>
         }
     }
     None
-}
-
-fn copy_labels(alloc: Global, labels: &[Label]) -> Result<Vec<Label>, WantOfMemory>
-    ensures { IfOk result (λ copies. copies.items ≡ labels.now) }
-{
-    let mut copies = Vec::new(alloc);
-    for label in labels {
-        copies.push(label.copy(alloc)?)?;
-    }
-    Ok(copies)
 }

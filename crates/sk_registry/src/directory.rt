@@ -1,9 +1,9 @@
 //! The registry's table.
 
-ghost use Rattle.std.specs.Prelude.{◌≡◌, ◌≢◌, ◌⊎◌, ◌++◌, ◌∷◌, [], ℕ, List, Some, None, Err, IfOk, IfErr, OnOk, OnErr, false, IsTrue, ◌↔◌};
+ghost use Rattle.std.specs.Prelude.{◌≡◌, ◌≢◌, ◌⊎◌, ◌++◌, ◌∷◌, [], List, Some, None, Err, IfOk, IfErr, OnOk, OnErr, false, IsTrue, ◌↔◌};
 ghost use Rattle.std.specs.Map.{values_of};
 ghost use Rattle.sk_registry.specs.Table.{has_name, is_full, refusal, without, IsTable};
-ghost use Rattle.sk_registry.specs.Events.{Event, Join, Leave, after};
+ghost use Rattle.sk_registry.specs.Events.{Join, Leave, after};
 
 use crate::joined::Joined;
 use crate::refused::JoinRefused;
@@ -55,8 +55,8 @@ impl Directory {
         self.table.is_empty()
     }
 
-    /// Joins one, and answers those joined before, in order of joining. A name that is joined is refused
-    /// as taken, and another one where 36 are joined; a refusal changes nothing.
+    /// Joins one, and answers those joined before, in order of joining. A name that is joined is
+    /// refused as taken, and another one where 36 are joined; a refusal changes nothing.
     pub fn join(
         &mut self,
         name: Name,

@@ -5,13 +5,15 @@ ghost use Rattle.sk_registry.specs.declared.joined.Joined.{Joined};
 ghost use Rattle.sk_registry.specs.Table.{is_named, has_name, refusal, IsTable, IsBefore};
 ghost use Rattle.sk_registry.specs.Events.{Event, Join, Leave, after, table_after, has_left, Joining, place, told, IsToldOf};
 
-/// Nothing has happened to the table of nobody, and what happens next is one step from the table so far.
+/// Nothing has happened to the table of nobody, and what happens next is one step from the table so
+/// far.
 pub fn tables_go_on_step_by_step()
     ensures first { table_after [] ≡ [] }
     ensures next { (events : List Event) (event : Event) → table_after (events ++ event ∷ []) ≡ after (table_after events) event }
 {}
 
-/// Whoever leaves is gone, nobody else is, and who leaves right after joining leaves the table as it was.
+/// Whoever leaves is gone, nobody else is, and who leaves right after joining leaves the table as
+/// it was.
 pub fn only_that_name_leaves()
     ensures gone { (table : List Joined) (name : List ℕ) → has_name (after table (Leave name)) name ≡ false }
     ensures others { (table : List Joined) (name other : List ℕ) → name ≢ other →
@@ -25,8 +27,8 @@ pub fn names_are_distinct()
     ensures { (events : List Event) → IsTable (table_after events) }
 {}
 
-/// Those in the table are those that joined, weren't refused, and whose name hasn't left since; of each
-/// name there is one such joining.
+/// Those in the table are those that joined, weren't refused, and whose name hasn't left since; of
+/// each name there is one such joining.
 pub fn each_is_there_by_one_joining()
     ensures there { (events : List Event) (joining : Joining events) → Contains (table_after events) joining.who }
     ensures by_one { (events : List Event) (who : Joined) → Contains (table_after events) who →
@@ -41,9 +43,9 @@ pub fn they_stand_in_order_of_joining()
         IsBefore (table_after events) earlier.who later.who }
 {}
 
-/// Of two that are in the table at once the later was told of the earlier, and once; and the earlier wasn't
-/// told of the later. Where the earlier was told of one of the later's name, that one left before the later
-/// came.
+/// Of two that are in the table at once the later was told of the earlier, and once; and the
+/// earlier wasn't told of the later. Where the earlier was told of one of the later's name, that
+/// one left before the later came.
 pub fn later_was_told_of_earlier()
     ensures of_earlier { (events : List Event) (earlier later : Joining events) → place earlier < place later →
         IsToldOf later earlier }

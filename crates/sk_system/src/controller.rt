@@ -58,7 +58,8 @@ pub struct Reaction {
 }
 
 impl Controller {
-    /// These are required, and nothing was seen of them yet. What is seen later is kept in this memory.
+    /// These are required, and nothing was seen of them yet. What is seen later is kept in this
+    /// memory.
     pub fn new(alloc: Global, required: Vec<Name>) -> Controller
         ensures { result ≡ nothing_held required.items }
     {
@@ -72,8 +73,8 @@ impl Controller {
         }
     }
 
-    /// What follows from a message of this name: a line where the system state has changed, an abort
-    /// where one that is required is in Error for the first time, and the end.
+    /// What follows from a message of this name: a line where the system state has changed, an
+    /// abort where one that is required is in Error for the first time, and the end.
     #[tactic(auto, unfolding(crate::specs::Controller::held_after))]
     pub fn note(&mut self, name: &Name, message: &Message) -> Result<Reaction, WantOfMemory>
         ensures kept { OnOk result (self.new ≡ held_after self.old name.now (notice_of message.now)) }

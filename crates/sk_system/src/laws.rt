@@ -10,15 +10,16 @@ ghost use Rattle.sk_system.specs.Notes.{Note, AreBelow, after_notes, last_note};
 ghost use Rattle.sk_system.specs.Roll.{seen_of};
 ghost use Rattle.sk_system.specs.View.{known_of};
 
-/// What is known of a participant is its last note, however many notes there were and in whatever order.
+/// What is known of a participant is its last note, however many notes there were and in whatever
+/// order.
 pub fn last_notes_count()
     ensures { (participants : ℕ) (notes : List Note) (number : ℕ) → AreBelow participants notes →
         known_of (after_notes (replicate participants None) notes) (Some number) ≡ last_note number notes }
 {}
 
-/// Whatever a monitor is told, and in whatever order, it keeps what the first Workflow requires; of each
-/// name the last state told, and which of its Leave and the loss of its link came first; and what its
-/// system lines said last is the system state over these.
+/// Whatever a monitor is told, and in whatever order, it keeps what the first Workflow requires; of
+/// each name the last state told, and which of its Leave and the loss of its link came first; and
+/// what its system lines said last is the system state over these.
 pub fn monitors_keep_what_counts()
     ensures required { (events : List Event) → (watched_after_all nothing_watched events).required ≡ first_required events }
     ensures state { (events : List Event) (name : List ℕ) →
@@ -46,9 +47,9 @@ pub fn ends_stay()
     ensures { (held : Held) (events : List Event) → is_over held ≡ true → held_after_all held events ≡ held }
 {}
 
-/// What decides on the end of a controller, in terms of what it was told up to there: it is over once
-/// each that is required has left or is lost; and it ends with 6 where one told that it is Aborting, or one
-/// that is required told Error or lost its link before its Leave.
+/// What decides on the end of a controller, in terms of what it was told up to there: it is over
+/// once each that is required has left or is lost; and it ends with 6 where one told that it is
+/// Aborting, or one that is required told Error or lost its link before its Leave.
 pub fn six_has_its_causes()
     ensures over { (required : List (List ℕ)) (events : List Event) →
         let told = until_end (nothing_held required) events in

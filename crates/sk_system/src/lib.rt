@@ -1,18 +1,19 @@
 //! What the states of all participants add up to, and the cores of the tools that watch them.
 //!
-//! A [`SystemView`] is told the last known state of each participant, and whom the workflow requires. It
-//! answers the state of the whole simulation, by the first of six rules that fits, and whether all that
-//! are required have reached a state of the chain. Contracts see what it was told.
+//! A [`SystemView`] is told the last known state of each participant, and whom the workflow
+//! requires. It answers the state of the whole simulation, by the first of six rules that fits, and
+//! whether all that are required have reached a state of the chain. Contracts see what it was told.
 //!
-//! A [`Monitor`] and a [`Controller`] are told each message of a name, and the loss of its link, and
-//! answer the lines to print; the controller also says when to abort, and with which status it ends. They
-//! take the system state from the very same definition, over names. Contracts see what they keep, and each
-//! call is one step on it. They print nothing and know of no link: whoever calls them does.
+//! A [`Monitor`] and a [`Controller`] are told each message of a name, and the loss of its link,
+//! and answer the lines to print; the controller also says when to abort, and with which status it
+//! ends. They take the system state from the very same definition, over names. Contracts see what
+//! they keep, and each call is one step on it. They print nothing and know of no link: whoever
+//! calls them does.
 //!
-//! Of a view only [`SystemView::new`] takes memory. `note` costs one write; an answer looks at those that
-//! are required, a few times over for the system state and once for `all_reached`. A tool looks each
-//! required name up among all names that it was told of, of which there are few; it takes memory for its
-//! lines and for a name that is new, and where there is none it is as before.
+//! Of a view only [`SystemView::new`] takes memory. `note` costs one write; an answer looks at
+//! those that are required, a few times over for the system state and once for `all_reached`. A
+//! tool looks each required name up among all names that it was told of, of which there are few; it
+//! takes memory for its lines and for a name that is new, and where there is none it is as before.
 //!
 //! ```text
 //! let mut view = SystemView::new(alloc, 2)?;
@@ -26,14 +27,14 @@
 //! ```
 #![tactic(auto)]
 
-pub mod controller;
+mod controller;
 pub mod laws;
 mod line;
-pub mod monitor;
+mod monitor;
 mod required;
 mod roll;
-pub mod state_name;
-pub mod view;
+mod state_name;
+mod view;
 
 pub use controller::{Controller, Reaction};
 pub use line::Line;

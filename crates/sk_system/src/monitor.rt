@@ -71,8 +71,8 @@ impl Monitor {
         }
     }
 
-    /// The lines for the loss of this name's link before its Leave. After that, or a second time, it
-    /// counts no more.
+    /// The lines for the loss of this name's link before its Leave. After that, or a second time,
+    /// it counts no more.
     #[tactic(auto, using(crate::proofs::LineLaws::unchanged), unfolding(crate::specs::Monitor::watched_after, crate::specs::Monitor::own_lines))]
     pub fn lost(&mut self, name: &Name) -> Result<Vec<Line>, WantOfMemory>
         ensures lines { IfOk result (λ lines. lines.items ≡ monitor_lines self.old name.now LosesLink) }

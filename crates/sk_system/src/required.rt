@@ -3,7 +3,7 @@
 ghost use Rattle.std.specs.Prelude.{◌≡◌, find, unwrap_or};
 ghost use Rattle.std.specs.List.{list_all};
 ghost use Rattle.sk_msg.specs.declared.state.State.{State};
-ghost use Rattle.sk_msg.specs.States.{is_state, has_reached};
+ghost use Rattle.sk_msg.specs.States.{is_state};
 ghost use Rattle.sk_system.specs.System.{some_is, some_reached, all_reached, is_unknown, is_running_or_paused, is_paused};
 ghost use Rattle.sk_system.specs.System.{ending, least_before_stopping, system_of, last_states};
 
@@ -74,7 +74,8 @@ impl<Name, Known: LastStates<Name>> Required<'_, Name, Known> {
         self.all_running_or_paused() && self.some_is(State::Paused)
     }
 
-    /// Shutdown, ShuttingDown or Stopped, the last in the chain that all have reached; else Stopping.
+    /// Shutdown, ShuttingDown or Stopped, the last in the chain that all have reached; else
+    /// Stopping.
     fn ending(&self) -> State
         ensures { result ≡ ending (last_states (Known.known self.now.known.now) self.now.names.now) }
     {

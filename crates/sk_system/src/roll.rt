@@ -2,7 +2,7 @@
 
 ghost use Rattle.std.specs.Prelude.{◌≡◌, [], OnOk, OnErr, position};
 ghost use Rattle.std.specs.Str.{bytes_eq};
-ghost use Rattle.sk_system.specs.Roll.{unseen, with_state, with_ending, is_gone, state_or_error, seen_of, put};
+ghost use Rattle.sk_system.specs.Roll.{with_state, with_ending, is_gone, state_or_error, seen_of, put};
 
 use crate::required::LastStates;
 use sk_base::{Name, WantOfMemory};

@@ -1,6 +1,5 @@
 //! Lives of simulations, as the tools see them. What is expected was worked out by hand.
 
-ghost use Rattle.std.specs.Prelude.{IsTrue};
 ghost use Rattle.sk_msg.specs.Rules.{is_told};
 
 use crate::state_name::name_of;

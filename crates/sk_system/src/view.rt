@@ -28,7 +28,8 @@ impl Model for SystemView {
 }
 
 impl SystemView {
-    /// The view of so many participants, numbered from 0: the workflow isn't known, and no state is.
+    /// The view of so many participants, numbered from 0: the workflow isn't known, and no state
+    /// is.
     pub fn new(alloc: Global, participants: u32) -> Result<SystemView, WantOfMemory>
         ensures { IfOk result (λ view. view ≡ record { required = None; known = replicate participants None }) }
     {
@@ -38,7 +39,8 @@ impl SystemView {
         })
     }
 
-    /// The workflow is known: these names are required. None stands for a name that is no participant.
+    /// The workflow is known: these names are required. None stands for a name that is no
+    /// participant.
     pub fn set_required(&mut self, required: Vec<Option<u32>>)
         ensures { self.new ≡ record self.old { required = Some required.items } }
     {
@@ -53,8 +55,8 @@ impl SystemView {
         self.known[participant as usize] = Some(state);
     }
 
-    /// The state of the whole simulation: Invalid where the workflow isn't known, else the first of six
-    /// rules on the last known states of those that are required.
+    /// The state of the whole simulation: Invalid where the workflow isn't known, else the first of
+    /// six rules on the last known states of those that are required.
     #[tactic(auto, unfolding(crate::specs::View::view_system))]
     pub fn system(&self) -> State
         ensures { result ≡ view_system self.now }

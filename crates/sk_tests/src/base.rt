@@ -1,6 +1,9 @@
-use sk_base::memory::{CallKind, FailAt, MemFile, MemFiles, MemGive, MemLink, MemTake};
+use sk_base::memory::{
+    CallKind, FailAt, MemFile, MemFiles, MemGive, MemLink, MemNet, MemSink, MemTake,
+};
 use sk_base::{
-    Bytes, BytesFault, Failed, Files, Gave, Link, Name, NameFault, Opened, SimTime, Text, Took,
+    Bytes, BytesFault, Failed, Files, Gave, Link, Name, NameFault, Net, Opened, SimTime, Sink,
+    Text, Took, one_more,
 };
 use std::process::Abort;
 use std::test::Fail;
@@ -164,6 +167,67 @@ fn files_play_what_they_hold(rt: HostRuntime) -> Result<(), Fail> {
         return Err(Fail::new("b.json isn't there"));
     };
     assert!(rt; files.read(&mut buf) == Ok(0));
+    Ok(())
+}
+
+#[test]
+fn a_sink_keeps_what_it_took(rt: HostRuntime) -> Result<(), Fail> {
+    let alloc = rt.alloc();
+    let mut fails = Vec::new(alloc);
+    for (call, number) in [(CallKind::Write, 2), (CallKind::Flush, 1)] {
+        let link = 0;
+        fails.push(FailAt { call, link, number })?;
+    }
+    let mut sink = MemSink::new(alloc, fails);
+    let long = [b'a'; 70];
+    assert!(rt; sink.write(&long) == Ok(64));
+    assert!(rt; sink.flush() == Err(Failed));
+    assert!(rt; sink.write(b"b") == Err(Failed));
+    assert!(rt; sink.write(b"") == Ok(0));
+    assert_eq!(rt; sink.written(), &long[..64]);
+    assert!(rt; sink.write(b"c") == Ok(1));
+    assert!(rt; sink.flush() == Ok(()));
+    assert_eq!(rt; sink.written().len(), 65);
+    assert!(rt; sink.written().ends_with(b"c"));
+    Ok(())
+}
+
+/// The number 0 names every call of its kind.
+#[test]
+fn a_sink_that_always_fails(rt: HostRuntime) -> Result<(), Fail> {
+    let alloc = rt.alloc();
+    let mut fails = Vec::new(alloc);
+    fails.push(FailAt {
+        call: CallKind::Write,
+        link: 0,
+        number: 0,
+    })?;
+    let mut sink = MemSink::new(alloc, fails);
+    for _ in 0..3u8 {
+        assert!(rt; sink.write(b"a") == Err(Failed));
+    }
+    assert!(rt; sink.flush() == Ok(()));
+    assert!(rt; sink.written().is_empty());
+    Ok(())
+}
+
+#[test]
+fn a_net_without_links(rt: HostRuntime) -> Result<(), Fail> {
+    let alloc = rt.alloc();
+    let at = Text::new(alloc, "silkit://127.0.0.1:0")?;
+    let mut net = MemNet::without_links(alloc);
+    assert!(rt; net.listen(&at).is_err());
+    assert!(rt; net.connect(&at) == Err(Failed));
+    assert!(rt; net.accept() == Ok(None));
+    assert!(rt; !net.is_open(0));
+    Ok(())
+}
+
+#[test]
+fn counts_of_faults(rt: HostRuntime) -> Result<(), Fail> {
+    for (before, now) in [(0, 1), (u64::MAX - 1, u64::MAX), (u64::MAX, u64::MAX)] {
+        assert_eq!(rt; one_more(before), now);
+    }
     Ok(())
 }
 

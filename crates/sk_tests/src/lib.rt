@@ -1,4 +1,4 @@
-//! Tests of the crates below the commands, by their public calls alone.
+//! Tests of `sk_base`, `sk_msg` and `sk_wire`, by their public calls alone.
 //!
 //! They stand in a crate of their own, since a crate with tests is proved twice.
 #![tactic(auto)]

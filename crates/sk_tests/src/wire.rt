@@ -16,7 +16,7 @@ const AT_0: &[u8] =
     b"\x12\x00\x00\x00\x01\x03\x00\x00\x00\x00\x00\x00\x00\x00\x40\x42\x0f\x00\x00\x00\x00\x00";
 /// A tool called tool, which listens on [::1]:7000.
 const HELLO_TOOL: &[u8] = b"\x13\x00\x00\x00\x01\x01\x04tool\x04\x0a[::1]:7000";
-/// A Hello to 2^60 ns, the longest step, at 2^62 ns, the latest time.
+/// A step of 2^60 ns, the longest, announced at 2^62 ns, the latest time.
 const LAST_STEP: &[u8] =
     b"\x12\x00\x00\x00\x01\x03\x00\x00\x00\x00\x00\x00\x00\x40\x00\x00\x00\x00\x00\x00\x00\x10";
 
@@ -684,7 +684,7 @@ fn fields_of_a_frame(rt: HostRuntime) -> Result<(), Fail> {
     };
     assert!(rt; *service == 1 && stamp.ns() == 3 && *mark == 2);
     assert!(rt; frame.id == 0x123 && !frame.extended && frame.fd);
-    assert_eq!(rt; frame.data.as_slice(), b"\x77".as_slice());
+    assert_eq!(rt; frame.payload.as_slice(), b"\x77".as_slice());
     Ok(())
 }
 

@@ -80,9 +80,9 @@ kept-set notes new kept s same = record {
   least = kept.least;
   most = kept.most;
   rising = rw (numbers-set new s same) kept.rising;
+  timed = kept.timed;
   counted = kept.counted;
   latest = kept.latest;
-  early = kept.early;
 }
 
 find-only : (n : ℕ) (peers : List PeerNotes) (i : ℕ) (d : PeerNotes) → IsOnlyAt n peers i → i < length peers → get_or (numbers_of peers) i 0 ≡ n →

@@ -1,5 +1,5 @@
 -- What was noted so far: the own steps, and each peer.
-use Rattle.std.specs.Prelude.{◌≡◌, ◌<◌, ◌≤◌, ◌+◌, ◌^◌, ◌==◌, ℕ, Bool, true, false, Option, Some, None, option_and_then, List, map, find, if◌then◌else◌}
+use Rattle.std.specs.Prelude.{◌≡◌, ◌≤◌, ◌*◌, ◌^◌, ◌==◌, ℕ, Bool, true, false, Option, Some, None, option_and_then, List, map, find, if◌then◌else◌}
 use Rattle.std.specs.List.Sorted.{IsStrictlyIncreasing}
 
 -- of one peer
@@ -18,7 +18,7 @@ pub record Notes : Type 0 where
   pub begun : ℕ
   -- whether the last of them hasn't ended
   pub is_open : Bool
-  -- the time of the open step, else of the next one
+  -- when the next step begins: at 0, and one size later with each step that was begun
   pub next : ℕ
   pub peers : List PeerNotes
 
@@ -59,8 +59,8 @@ pub record IsKept (notes : Notes) : Type 0 where
   pub least : 1 ≤ notes.size
   pub most : notes.size ≤ 2 ^ 60
   pub rising : IsStrictlyIncreasing (numbers notes)
+  -- the next step begins one size behind the last one, and the first at 0
+  pub timed : notes.next ≡ notes.begun * notes.size
   -- no step is shorter than a nanosecond, so at most so many were begun
-  pub counted : notes.begun ≤ notes.next + (if notes.is_open then 1 else 0)
+  pub counted : notes.begun ≤ notes.next
   pub latest : notes.next ≤ 2 ^ 62
-  -- a step begins early enough that the next one has a time
-  pub early : notes.is_open ≡ true → notes.next < 2 ^ 61

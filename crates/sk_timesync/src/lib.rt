@@ -3,7 +3,9 @@
 //! [`Steps`] keeps the own steps and what was heard of each peer, and [`Steps::may_begin`] is the
 //! rule over all of it: a step begins once every peer is known and each one that is synchronised
 //! and hasn't left has announced the step's time or a later one. Else the answer names the first
-//! peer that is waited for. Contracts see the notes themselves, and never how they are kept.
+//! peer that is waited for. [`Steps::next`] is when the next step begins, at every moment: 0, and a
+//! step size later with each step that was begun. Contracts see the notes themselves, and never how
+//! they are kept.
 //!
 //! Each call looks at every peer at most once. Only [`Steps::add_peer`] takes memory.
 //!
@@ -16,10 +18,10 @@
 //! ```
 #![tactic(auto)]
 
-pub mod answer;
+mod answer;
 pub mod laws;
 mod peer;
-pub mod steps;
+mod steps;
 #[cfg(test)]
 mod tests;
 

@@ -17,7 +17,7 @@ pub struct Steps {
     size: u64,
     begun: u64,
     is_open: bool,
-    /// When the open step began, else when the next one begins.
+    /// When the next step begins.
     next: SimTime,
     /// In rising number.
     peers: Vec<Peer>,
@@ -118,31 +118,32 @@ impl Steps {
     }
 
     /// Begins the next step, whose time is below 2^61 nanoseconds, and answers its number: 1 for
-    /// the first.
+    /// the first. From now on the next step is the one behind it, a step size later.
+    #[tactic(auto, unfolding(sk_base::specs::Ranges::is_time))]
     pub fn begin(&mut self) -> u64
         requires clear { IsClear self.old }
         requires early { self.old.next < 2 ^ 61 }
-        ensures noted { self.new ≡ record self.old { begun = self.old.begun + 1; is_open = true } }
+        ensures noted { self.new ≡ record self.old { begun = self.old.begun + 1; is_open = true; next = self.old.next + self.old.size } }
         ensures number { result ≡ self.new.begun }
     {
         self.begun += 1;
         self.is_open = true;
+        self.next = self.next.plus(self.size).unwrap();
         self.begun
     }
 
-    /// Ends the open step, and answers when the next one is.
-    #[tactic(auto, unfolding(sk_base::specs::Ranges::is_time))]
+    /// Ends the open step, and answers when the next one begins.
     pub fn end(&mut self) -> SimTime
         requires { self.old.is_open ≡ true }
-        ensures noted { self.new ≡ record self.old { is_open = false; next = self.old.next + self.old.size } }
+        ensures noted { self.new ≡ record self.old { is_open = false } }
         ensures next { result ≡ self.new.next }
     {
         self.is_open = false;
-        self.next = self.next.plus(self.size).unwrap();
         self.next
     }
 
-    /// The time of the open step, else of the next one.
+    /// When the next step begins, in nanoseconds of virtual time: at 0 before the first one, else
+    /// a step size behind the last one that was begun, also while that one is open.
     pub fn next(&self) -> SimTime
         ensures next { result ≡ self.now.next }
         ensures kept { IsKept self.now }

@@ -164,6 +164,23 @@ fn every_number_of_peers(rt: HostRuntime) -> Result<(), Fail> {
 }
 
 #[test]
+fn next_is_the_step_behind(rt: HostRuntime) -> Result<(), Fail> {
+    let mut steps = with_peers(rt.alloc(), 10, 0)?;
+    assert_eq!(rt; steps.next().ns(), 0);
+    // an open step's own time is no answer
+    for (note, next) in [
+        (Note::Begins, 10),
+        (Note::Ends, 10),
+        (Note::Begins, 20),
+        (Note::Ends, 20),
+    ] {
+        make(&rt, &mut steps, 0, note);
+        assert_eq!(rt; steps.next().ns(), next, "after {note:?}");
+    }
+    Ok(())
+}
+
+#[test]
 fn announcements_rise(rt: HostRuntime) -> Result<(), Fail> {
     let mut steps = with_peers(rt.alloc(), 10, 1)?;
     steps.know(0, true);

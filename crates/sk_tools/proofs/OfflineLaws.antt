@@ -106,11 +106,11 @@ pub ends_unread : (content : Option (List ℕ)) (why : Unread) (ended : Checked)
 ends_unread content unread.Absent ended explains ends = rw (ends, found_none content explains) refl
 ends_unread content unread.TooLong ended explains ends = rw (ends, found_long content explains) refl
 ends_unread content unread.Fault ended explains ends = rw ends tt
-ends_unread content unread.Memory ended explains ends = rw ends tt
+ends_unread content unread.WantOfMemory ended explains ends = rw ends tt
 
 pub said_unread_same : (file : List ℕ) (content : Option (List ℕ)) (why : Unread) (ended : Checked) → Explains content why → EndsUnread why ended
     → ended ≢ Memory → said_unread file why ≡ said_of file (found_in content) ended
 said_unread_same file content unread.Absent ended explains ends ran = rw (ends, found_none content explains) refl
 said_unread_same file content unread.TooLong ended explains ends ran = rw (ends, found_long content explains) refl
 said_unread_same file content unread.Fault ended explains ends ran = rw ends refl
-said_unread_same file content unread.Memory ended explains ends ran = absurd (ran ends)
+said_unread_same file content unread.WantOfMemory ended explains ends ran = absurd (ran ends)

@@ -70,7 +70,7 @@ abbrev pub said_unread : List ℕ → Unread → List ℕ
 said_unread file unread.Absent = complaint file (codes "no such file")
 said_unread file unread.TooLong = complaint file (codes "more than 16777216 bytes")
 said_unread file unread.Fault = complaint (codes "read fault") file
-said_unread file unread.Memory = []
+said_unread file unread.WantOfMemory = []
 
 -- ## How it ends
 
@@ -78,7 +78,7 @@ abbrev pub EndsUnread : Unread → Checked → Type 0
 EndsUnread unread.Absent ended = ended ≡ Refused
 EndsUnread unread.TooLong ended = ended ≡ Refused
 EndsUnread unread.Fault ended = ended ≡ ReadFault
-EndsUnread unread.Memory ended = ended ≡ Memory
+EndsUnread unread.WantOfMemory ended = ended ≡ Memory
 
 abbrev pub is_sound : Found → Bool
 is_sound NoFile = false

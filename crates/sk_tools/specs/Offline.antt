@@ -54,7 +54,7 @@ IsOffline answer = IsTrue (list_any (λ status. status == answer) (0 ∷ 1 ∷ 2
 abbrev pub IsRefused : words.Refused → ℕ → Type 0
 IsRefused (refused.Words text) answer = answer ≡ 2
 IsRefused refused.Usage answer = answer ≡ 2
-IsRefused refused.Memory answer = answer ≡ 5
+IsRefused refused.WantOfMemory answer = answer ≡ 5
 
 -- what is said on standard error: of the file, and of how it ended
 abbrev pub said_by : List ℕ → Found → ℕ → List ℕ

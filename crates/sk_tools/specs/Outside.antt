@@ -3,7 +3,7 @@ use Rattle.std.specs.Prelude.{◌≡◌, ◌≤◌, ◌<◌, ◌^◌, ◌-◌, �
 use Rattle.sk_base.specs.Talk.{Rose}
 use Rattle.sk_tools.specs.Run.{IsPrefixOf}
 use Rattle.sk_tools.specs.declared.reading.Unread.{Unread}
-use Rattle.sk_tools.specs.declared.reading.Unread.TheVariants.{Absent, TooLong, Fault, Memory}
+use Rattle.sk_tools.specs.declared.reading.Unread.TheVariants.{Absent, TooLong, Fault, WantOfMemory}
 
 -- ## Reading
 
@@ -18,7 +18,7 @@ abbrev pub Explains : Option (List ℕ) → Unread → Type 0
 Explains content Absent = content ≡ None
 Explains content TooLong = IsSomeAnd content (λ bytes. 2 ^ 24 < length bytes)
 Explains content Fault = Unit {0}
-Explains content Memory = Unit {0}
+Explains content WantOfMemory = Unit {0}
 
 -- these are all its bytes
 abbrev pub IsContent : Option (List ℕ) → List ℕ → Type 0
@@ -29,7 +29,7 @@ abbrev pub CountsUnread : ℕ → ℕ → Unread → Type 0
 CountsUnread before now Absent = now ≡ before
 CountsUnread before now TooLong = now ≡ before
 CountsUnread before now Fault = Rose before now
-CountsUnread before now Memory = now ≡ before
+CountsUnread before now WantOfMemory = now ≡ before
 
 -- ## Writing
 

@@ -3,7 +3,7 @@ use Rattle.std.specs.Prelude.{◌≡◌, Option, Some, None}
 use Rattle.sk_tools.specs.Words.{Job}
 use Rattle.sk_tools.specs.declared.plan.Plan.{Plan}
 use Rattle.sk_tools.specs.declared.words.Refused.{Refused}
-use Rattle.sk_tools.specs.declared.words.Refused.TheVariants.{Words, Usage, Memory}
+use Rattle.sk_tools.specs.declared.words.Refused.TheVariants.{Words, Usage, WantOfMemory}
 
 abbrev pub IsPlanOf : Option Job → Plan → Type 0
 IsPlanOf job plan = job ≡ Some (record { name = plan.name; step = plan.step; duration = plan.duration })
@@ -12,4 +12,4 @@ IsPlanOf job plan = job ≡ Some (record { name = plan.name; step = plan.step; d
 abbrev pub IsRefusalOf : {A : Type 0} → Option A → Refused → Type 0
 IsRefusalOf reading (Words text) = reading ≡ None
 IsRefusalOf reading Usage = reading ≡ None
-IsRefusalOf reading Memory = Unit {0}
+IsRefusalOf reading WantOfMemory = Unit {0}

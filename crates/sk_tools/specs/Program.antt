@@ -4,7 +4,7 @@ use Rattle.sk_base.specs.Talk.{Said, Rose, given, taken}
 use Rattle.sk_tools.specs.Words.{job_of, file_to_check}
 use Rattle.sk_tools.specs.Pipe.{pipe_out}
 use Rattle.sk_tools.specs.Run.{IsInStep, HasLeft, IsBroken, HasNoLeave, IsFull, IsTired}
-use Rattle.sk_tools.specs.Top.{said_since, InRun, IsExactly, IsStopped, IsThrough, IsUsage}
+use Rattle.sk_tools.specs.Top.{said_since, InRun, IsExactly, IsPipeStatus, IsStopped, IsThrough, IsUsage}
 use Rattle.sk_tools.specs.Outside.{HasNoFault}
 use Rattle.sk_tools.specs.Check.{found_in, checked_text}
 use Rattle.sk_tools.specs.Offline.{IsOffline, IsChecked, IsOutput, said_by}
@@ -12,6 +12,7 @@ use Rattle.sk_tools.specs.Offline.{IsOffline, IsChecked, IsOutput, said_by}
 -- `pipe`, by the words, the link before and after, and the answer
 pub record IsPipeCall (words : List (List ℕ)) (tells : Bool) (before now : List Said) (faults faults_now : ℕ) (answer : ℕ) : Type 0 where
   pub usage : IsUsage (job_of words) answer
+  pub known : IsPipeStatus answer
   pub fault : answer ≡ 4 → Rose faults faults_now
   pub steady : answer ≢ 4 → faults_now ≡ faults
   pub talk : tells ≡ true → now ≡ before ++ said_since before now

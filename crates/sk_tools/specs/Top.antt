@@ -1,5 +1,6 @@
 -- What the top call answers.
-use Rattle.std.specs.Prelude.{◌≡◌, ◌⊎◌, ℕ, Bool, true, Option, Some, None, List, length, drop}
+use Rattle.std.specs.Prelude.{◌≡◌, ◌⊎◌, ℕ, ◌==◌, Bool, true, Option, Some, None, List, [], ◌∷◌, length, drop, IsTrue}
+use Rattle.std.specs.List.{list_any}
 use Rattle.sk_base.specs.Talk.{Said}
 use Rattle.sk_tools.specs.Words.{Job, job_of}
 use Rattle.sk_tools.specs.declared.status.Status.{Status}
@@ -12,6 +13,10 @@ status_number status.Memory = 5
 status_number status.Limit = 8
 status_number status.BadInput = 10
 status_number status.NoLeave = 11
+
+-- `pipe` ends with one of these
+abbrev pub IsPipeStatus : ℕ → Type 0
+IsPipeStatus answer = IsTrue (list_any (λ status. status == answer) (0 ∷ 2 ∷ 4 ∷ 5 ∷ 8 ∷ 10 ∷ 11 ∷ []))
 
 -- what was said on a link since it had said this
 abbrev pub said_since : List Said → List Said → List Said

@@ -1,13 +1,14 @@
 //! The command `check`.
 
-ghost use Rattle.std.specs.Prelude.{◌≡◌, ◌≢◌, ◌≤◌, ◌++◌, ℕ, true, List, string_bytes, IfOk};
+ghost use Rattle.std.specs.Prelude.{◌≡◌, ◌≢◌, ℕ, true, List, string_bytes, IfOk};
 ghost use Rattle.sk_config.specs.Reading.{reading};
 ghost use Rattle.sk_tools.specs.Outside.{Says};
-ghost use Rattle.sk_tools.specs.Check.{Found, Sound, found_in, found_by, complaint, warning_lines, said_of, said_unread, checked_text, MayEnd, EndsUnread, Leaves};
+ghost use Rattle.sk_tools.specs.Check.{Sound, found_in, found_by, complaint, warning_lines, said_of, said_unread, checked_text, MayEnd, EndsUnread, Leaves};
 ghost use Rattle.sk_tools.specs.Offline.{CountsReads, CountsWrites};
 ghost use Rattle.sk_tools.specs.declared.checked.Checked.TheVariants.{Memory, ReadFault};
 
 use crate::checked::Checked;
+use crate::lines::OUT_OF_MEMORY_LINE;
 use crate::reading::{Unread, read_file};
 use crate::writing::{say, say_line, write_out};
 use sk_base::{Files, Sink, WantOfMemory};
@@ -55,7 +56,7 @@ fn refuse_file<E: Sink>(file: &str, why: Unread, err: &mut E) -> Checked
             complain("read fault", file, err);
             Checked::ReadFault
         }
-        Unread::Memory => out_of_memory(err),
+        Unread::WantOfMemory => out_of_memory(err),
     }
 }
 
@@ -136,6 +137,6 @@ fn complain<E: Sink>(about: &str, wrong: &str, err: &mut E)
 pub fn out_of_memory<E: Sink>(err: &mut E) -> Checked
     ensures { result ≡ Memory }
 {
-    say(err, b"silkit: out of memory\n");
+    say(err, OUT_OF_MEMORY_LINE.as_bytes());
     Checked::Memory
 }

@@ -1,3 +1,4 @@
+use crate::testing::{fails_of, words_of};
 use crate::{Host, silkit, silkit_offline};
 use sk_base::Idle;
 use sk_base::memory::{CallKind, FailAt, MemFile, MemFiles, MemLink, MemNet, MemSink};
@@ -21,24 +22,6 @@ impl Idle for NoRest {
     fn rest(&self) {}
 }
 
-fn words_of(alloc: Global, texts: &[&str]) -> Result<Vec<String>, AllocError> {
-    let mut words = Vec::new(alloc);
-    for text in texts {
-        words.push(String::from_str(alloc, text)?)?;
-    }
-    Ok(words)
-}
-
-fn fails_of(alloc: Global, call: CallKind, number: u64) -> Result<Vec<FailAt>, AllocError> {
-    let mut fails = Vec::new(alloc);
-    fails.push(FailAt {
-        call,
-        link: 0,
-        number,
-    })?;
-    Ok(fails)
-}
-
 /// One file, `a.json`.
 fn files_of(alloc: Global, content: &[u8], fails: Vec<FailAt>) -> Result<MemFiles, AllocError> {
     let mut files = Vec::new(alloc);
@@ -49,8 +32,8 @@ fn files_of(alloc: Global, content: &[u8], fails: Vec<FailAt>) -> Result<MemFile
     Ok(MemFiles::new(files, fails))
 }
 
-/// What a run of these words on the one file answers, writes and says, where one call fails: that of
-/// this number, or none where it is out of reach.
+/// What a run of these words on the one file answers, writes and says, where one call fails: that
+/// of this number, or none where it is out of reach.
 fn expect(
     rt: &(impl Abort + AllocGlobal),
     words: &[&str],

@@ -2,6 +2,8 @@
 
 ghost use Rattle.std.specs.Prelude.{◌≡◌};
 
+use crate::status::OUT_OF_MEMORY;
+
 /// The end of a command that reads files and writes a text.
 #[derive(Clone, Copy, Debug, PartialEq, Eq)]
 pub enum Checked {
@@ -29,7 +31,7 @@ impl Checked {
             Checked::Refused => 1,
             Checked::ReadFault => 3,
             Checked::WriteFault => 4,
-            Checked::Memory => 5,
+            Checked::Memory => OUT_OF_MEMORY,
         }
     }
 }

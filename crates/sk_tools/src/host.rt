@@ -13,11 +13,17 @@ use std::alloc::Global;
 /// The outside that the program is handed.
 #[derive(Drop)]
 pub struct Host<F, O, E, L, N, I> {
+    /// The files that a command on files reads.
     pub files: F,
+    /// Where a command on files writes its text.
     pub out: O,
+    /// Where it says what there is to say of the run.
     pub err: E,
+    /// The one link of `pipe`.
     pub link: L,
+    /// The links to more than one peer: no command uses them yet.
     pub net: N,
+    /// What a command does while nothing is ready: none uses it yet.
     pub idle: I,
 }
 

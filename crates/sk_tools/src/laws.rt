@@ -1,4 +1,5 @@
-//! Laws of what `pipe` writes: functions that do nothing, whose contracts are the laws.
+//! Laws of what `pipe` writes and of what words read as: functions that do nothing, whose contracts
+//! are the laws.
 
 ghost use Rattle.std.specs.Prelude.{◌≡◌, [], ◌∷◌, Some, None, codes};
 ghost use Rattle.sk_tools.specs.Pipe.{pipe_out};
@@ -28,8 +29,8 @@ pub fn works()
 {}
 
 /// What words read as that are written out: behind `--` each word is a value, before it a word that
-/// begins with a hyphen is none, but for the hyphen alone; help, a word too few and one too many have
-/// no reading.
+/// begins with a hyphen is none, but for the hyphen alone; help, a word too few and one too many
+/// have no reading.
 pub fn reads_words()
     ensures behind { file_to_check (codes "check" ∷ codes "--" ∷ codes "-x" ∷ []) ≡ Some (codes "-x") }
     ensures before { file_to_check (codes "check" ∷ codes "-x" ∷ []) ≡ None }

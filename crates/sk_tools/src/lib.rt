@@ -3,34 +3,49 @@
 //! [`silkit`] is the program: it hands the words to one of the calls below by the first of them.
 //! [`silkit_pipe`] is the bare step protocol with one peer on a link. Its contract says, at every
 //! place of the link's talk, what was given for the bytes taken so far, and for each status the
-//! cause that forces it. [`silkit_offline`] has the commands on files: what they answer, write and say
-//! follows from the words and from what the files hold. Nothing else needs to be believed of the
-//! program.
+//! cause that forces it. [`silkit_offline`] has the commands on files: what they answer, write and
+//! say follows from the words and from what the files hold. Clauses on what was taken, given,
+//! written or read hold where the object tells it: those in memory do, the real ones don't. What
+//! else must be believed, the README says.
 //!
-//! A run of `pipe` looks at each byte of its input a constant number of times, and keeps no more than
-//! one message of it. A command on files reads each of them whole, at most 16,777,216 bytes.
+//! A run of `pipe` looks at each byte of its input a constant number of times, and keeps no more
+//! than one message of it from piece to piece. A step of its own costs one message, and at most 128
+//! of them are kept before they are given. A command on files reads each of them whole, at most
+//! 16,777,216 bytes.
+//!
+//! ```text
+//! let status = silkit_pipe(alloc, &words, &mut link, &mut files);      // pipe A 1000000 3000000
+//! let status = silkit_offline(alloc, &words, &mut files, &mut out, &mut err);     // check a.json
+//! let status = silkit(alloc, &words, &mut host);              // by the first word, one of the two
+//! ```
 #![tactic(auto)]
 
-pub mod check;
+mod check;
 #[cfg(test)]
 mod check_tests;
-pub mod check_words;
-pub mod checked;
-pub mod host;
+mod check_words;
+mod checked;
+mod host;
 pub mod laws;
-pub mod offline;
-pub mod peer;
-pub mod pipe;
-pub mod pipe_words;
-pub mod plan;
-pub mod reading;
-pub mod session;
-pub mod status;
+mod lines;
+mod offline;
+mod peer;
+mod pieces;
+mod pipe;
 #[cfg(test)]
-mod tests;
-pub mod words;
-pub mod writing;
+mod pipe_tests;
+mod pipe_words;
+mod plan;
+mod reading;
+mod session;
+mod status;
+#[cfg(test)]
+mod testing;
+mod words;
+mod writing;
 
 pub use host::{Host, silkit};
+pub use lines::{OUT_OF_MEMORY_LINE, USAGE_LINE};
 pub use offline::silkit_offline;
 pub use pipe::silkit_pipe;
+pub use status::{OUT_OF_MEMORY, USAGE};

@@ -10,22 +10,22 @@ ghost use Rattle.sk_tools.specs.Offline.{IsOffline, IsChecked, IsOutput, IsRefus
 
 use crate::check::{check, out_of_memory};
 use crate::check_words::read_check;
+use crate::lines::USAGE_LINE;
+use crate::status::USAGE;
 use crate::words::Refused;
 use crate::writing::say;
 use sk_base::{Files, Sink};
 use std::alloc::Global;
 
-/// The status of words that have no reading.
-const USAGE: u8 = 2;
-
-/// `check FILE`. Files are read, the text is written to `out`, and what there is to say of the run to
-/// `err`; a fault of `err` changes nothing. It always returns.
+/// `check FILE`. Files are read, the text is written to `out`, and what there is to say of the run
+/// to `err`; a fault of `err` changes nothing. It makes finitely many calls of the outside, and
+/// returns if they do.
 ///
 /// - 0: the file holds a configuration, and its canonical text and a line end were written.
 /// - 1: the file is absent, has more than 16,777,216 bytes, or holds no configuration.
 /// - 2: the words have no reading, or are those of another call.
 /// - 3: the file couldn't be read.
-/// - 4: the output couldn't be written; a part of the text was.
+/// - 4: the output couldn't be written: none, a part or all of the text was.
 /// - 5: memory ran out.
 pub fn silkit_offline<F: Files, O: Sink, E: Sink>(
     alloc: Global,
@@ -37,7 +37,8 @@ pub fn silkit_offline<F: Files, O: Sink, E: Sink>(
     ensures usage { IsUsage (file_to_check (map string_bytes words.now)) result }
     ensures known { IsOffline result }
 
-    // The count of the files' faults rose with status 3, that of the output's with status 4, and with no other.
+    // The count of the files' faults rose with status 3, that of the output's with status 4, and
+    // with no other.
     ensures read_fault { result ≡ 3 → Rose (F.faults files.old) (F.faults files.new) }
     ensures reads_steady { result ≢ 3 → F.faults files.new ≡ F.faults files.old }
     ensures write_fault { result ≡ 4 → Rose (O.faults out.old) (O.faults out.new) }
@@ -71,9 +72,9 @@ fn refuse_words<E: Sink>(refused: Refused, err: &mut E) -> u8
             USAGE
         }
         Refused::Usage => {
-            say(err, b"silkit: usage\n");
+            say(err, USAGE_LINE.as_bytes());
             USAGE
         }
-        Refused::Memory => out_of_memory(err).number(),
+        Refused::WantOfMemory => out_of_memory(err).number(),
     }
 }

@@ -1,6 +1,6 @@
 //! What was heard of the peer.
 
-ghost use Rattle.std.specs.Prelude.{◌≡◌, ◌≤◌, ◌<◌, ◌+◌, ◌*◌, ◌/◌, ◌++◌, ◌^◌, true, min, ℕ, List, [], ◌∷◌, Option, None, IsTrue};
+ghost use Rattle.std.specs.Prelude.{◌≡◌, ◌≤◌, ◌+◌, ◌*◌, ◌/◌, ◌^◌, true, min, ℕ, List, [], ◌∷◌, Option, None, IsTrue};
 ghost use Rattle.sk_msg.specs.Rules.{is_step_size};
 ghost use Rattle.sk_tools.specs.Frames.{all_steps, due_after};
 ghost use Rattle.sk_tools.specs.Roles as roles;
@@ -39,7 +39,9 @@ pub struct Peer {
     pub total: u64,
     /// How many of them may begin by what was heard.
     pub begun: u64,
+    /// What is known of the peer, up to its last message in order.
     pub standing: Standing,
+    /// What ended its messages, if anything did.
     pub over: Option<Over>,
     ghost step_fits: { IsTrue (is_step_size step) },
     ghost duration_fits: { duration ≤ 2 ^ 61 },

@@ -6,24 +6,20 @@ ghost use Rattle.sk_tools.specs.Words.{job_of};
 ghost use Rattle.sk_tools.specs.Pipe.{pipe_out};
 ghost use Rattle.sk_tools.specs.Run.{IsInStep, IsPipe, HasLeft, IsBroken, HasNoLeave, IsFull, IsTired};
 ghost use Rattle.sk_tools.specs.Session.{CountsFaults};
-ghost use Rattle.sk_tools.specs.Top.{said_since, InRun, IsExactly, IsStopped, IsThrough, IsUsage};
+ghost use Rattle.sk_tools.specs.Top.{said_since, InRun, IsExactly, IsPipeStatus, IsStopped, IsThrough, IsUsage};
 
-use crate::pipe_words::read_plan;
+use crate::pieces::PIECE;
+use crate::pipe_words::read_pipe;
 use crate::plan::Plan;
 use crate::session::Session;
-use crate::status::Status;
+use crate::status::{OUT_OF_MEMORY, Status, USAGE};
 use crate::words::Refused;
 use sk_base::{Files, Link};
 use std::alloc::Global;
 
-/// The input is taken in pieces of so many bytes.
-const PIECE: usize = 16384;
-
-/// The status of words that have no reading.
-const USAGE: u8 = 2;
-
 /// `pipe NAME STEP DURATION`: the bare step protocol with one peer on the link, STEP and DURATION
-/// in nanoseconds of virtual time. No file is read. It always returns.
+/// in nanoseconds of virtual time. No file is read. It makes finitely many calls of the link, and
+/// returns if they do.
 ///
 /// - 0: the peer left in order.
 /// - 2: the words have no reading; nothing was taken or given.
@@ -32,6 +28,7 @@ const USAGE: u8 = 2;
 /// - 8: 2^32 bytes came and the peer hadn't left, or 1,048,576 answers NotYet came in a row.
 /// - 10: bytes that are no message, or a message out of order, before the peer's Leave.
 /// - 11: the input ended before the peer's Leave.
+#[tactic(auto, using(crate::proofs::TopLaws::known_status, crate::proofs::TopLaws::limit_since, crate::proofs::TopLaws::silent_in_step))]
 pub fn silkit_pipe<L: Link, F: Files>(
     alloc: Global,
     words: &[String],
@@ -39,6 +36,7 @@ pub fn silkit_pipe<L: Link, F: Files>(
     files: &mut F,
 ) -> u8
     ensures usage { IsUsage (job_of (map string_bytes words.now)) result }
+    ensures known { IsPipeStatus result }
     ensures files { files.new ≡ files.old }
 
     // The count of the link's faults rose with status 4, and with no other.
@@ -64,9 +62,9 @@ pub fn silkit_pipe<L: Link, F: Files>(
     ensures tired { InRun (L.tells link.old) (map string_bytes words.now) (L.talk link.old) (L.talk link.new) (λ _ said. IsTired said → result ≡ 8) }
 {
     let _ = files;
-    match read_plan(alloc, words) {
+    match read_pipe(alloc, words) {
         Ok(plan) => run(alloc, plan, link).number(),
-        Err(Refused::Memory) => Status::Memory.number(),
+        Err(Refused::WantOfMemory) => OUT_OF_MEMORY,
         Err(Refused::Words(_)) => USAGE,
         Err(Refused::Usage) => USAGE,
     }

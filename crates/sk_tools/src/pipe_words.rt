@@ -13,7 +13,7 @@ use sk_base::{Name, NameFault};
 use std::alloc::{AllocError, Global};
 
 /// Reads `pipe NAME STEP DURATION`.
-pub fn read_plan(alloc: Global, words: &[String]) -> Result<Plan, Refused>
+pub fn read_pipe(alloc: Global, words: &[String]) -> Result<Plan, Refused>
     ensures { MatchResult result (IsPlanOf (job_of (map string_bytes words.now))) (IsRefusalOf (job_of (map string_bytes words.now))) }
 {
     if !is_command(words, "pipe") {
@@ -58,7 +58,7 @@ fn plan_from(alloc: Global, name: &str, step: &str, duration: &str) -> Result<Pl
             duration,
         }),
         Err(fault) => match fault {
-            NameFault::WantOfMemory => Err(Refused::Memory),
+            NameFault::WantOfMemory => Err(Refused::WantOfMemory),
             _ => Err(Refused::Usage),
         },
     }

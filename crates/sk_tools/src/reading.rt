@@ -2,14 +2,12 @@
 
 ghost use Rattle.std.specs.Prelude.{◌≡◌, ◌≢◌, ◌⊎◌, ◌<◌, ◌+◌, ℕ, true, List, length, Some, IfOk, OnOk, IfErr, IsTrue, MatchResult};
 ghost use Rattle.sk_tools.specs.Outside.{IsReadTo, IsContent, Explains, CountsUnread};
-ghost use Rattle.sk_tools.specs.declared.reading.Unread.TheVariants.{Absent, Fault, Memory};
+ghost use Rattle.sk_tools.specs.declared.reading.Unread.TheVariants.{Absent, Fault, WantOfMemory};
 
+use crate::pieces::PIECE;
 use sk_base::limits::LONGEST_FILE;
 use sk_base::{Files, Opened};
 use std::alloc::Global;
-
-/// A file is read in pieces of so many bytes.
-const PIECE: usize = 16384;
 
 /// Why a file wasn't read.
 #[derive(Clone, Copy, Debug, PartialEq, Eq)]
@@ -21,7 +19,7 @@ pub enum Unread {
     /// Opening or reading it failed.
     Fault,
     /// Memory ran out.
-    Memory,
+    WantOfMemory,
 }
 
 /// All that the file of this path holds, at most 16,777,216 bytes.
@@ -73,7 +71,7 @@ fn read_piece<F: Files>(files: &mut F, bytes: &mut Vec<u8>, buf: &mut [u8]) -> R
     ensures ready { F.is_ready files.new ≡ F.is_ready files.old }
     ensures steady { OnOk result (F.faults files.new ≡ F.faults files.old) }
     ensures faults { IfErr result (CountsUnread (F.faults files.old) (F.faults files.new)) }
-    ensures why { IfErr result (λ why. (why ≡ Fault) ⊎ (why ≡ Memory)) }
+    ensures why { IfErr result (λ why. (why ≡ Fault) ⊎ (why ≡ WantOfMemory)) }
     ensures tells { F.tells files.new ≡ F.tells files.old }
     ensures contents { (at : List ℕ) → F.content files.new at ≡ F.content files.old at }
     ensures current { F.current files.new ≡ F.current files.old }
@@ -87,6 +85,6 @@ fn read_piece<F: Files>(files: &mut F, bytes: &mut Vec<u8>, buf: &mut [u8]) -> R
     };
     match bytes.extend_from_slice(&buf[..count]) {
         Ok(()) => Ok(count),
-        Err(_) => Err(Unread::Memory),
+        Err(_) => Err(Unread::WantOfMemory),
     }
 }

@@ -2,7 +2,6 @@
 
 ghost use Rattle.std.specs.Prelude.{◌≡◌, ◌≢◌, ◌≤◌, ◌<◌, ◌+◌, ◌^◌, ℕ, true, false, not, ◌||◌, nat_lt, nat_le, List, [], ◌∷◌, ◌++◌, length, drop, Some, None, suc, is_some, IfOk, OnOk, IfNone, IsTrue};
 ghost use Rattle.sk_base.specs.Talk.{Said, Taken};
-ghost use Rattle.sk_msg.specs.Rules.{is_step_size};
 ghost use Rattle.sk_tools.specs.Frames.{frame, due_after};
 ghost use Rattle.sk_wire.specs.Grammar.{spelling};
 ghost use Rattle.sk_tools.specs.Pipe as pipe;
@@ -26,17 +25,20 @@ const BATCH: u32 = 128;
 
 /// One run of `pipe`.
 ///
-/// A turn makes one call of the link: it gives where something is due and the link may take it,
-/// else it takes. The messages due are known by their number alone, so they needn't be kept
-/// before they are given.
+/// A turn makes one call of the link, but none at the end: it gives where something is due and the
+/// link may take it, else it takes. The messages due are known by their number alone, so they
+/// needn't be kept before they are given.
 #[derive(Drop)]
 pub struct Session {
+    /// What was heard of the peer, and what may be announced to it.
     pub peer: Peer,
+    /// What was taken and is no whole message yet.
     pub decoder: Decoder,
     /// How many messages were put into `pending` so far.
     pub sent: u64,
-    /// The messages that are being given, and how many of their bytes were given.
+    /// The bytes of the messages that are being given.
     pub pending: Vec<u8>,
+    /// How many of these bytes were given.
     pub at: usize,
     /// How many bytes were taken.
     pub taken: u64,

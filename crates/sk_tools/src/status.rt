@@ -3,6 +3,12 @@
 ghost use Rattle.std.specs.Prelude.{◌≡◌};
 ghost use Rattle.sk_tools.specs.Top.{status_number};
 
+/// The status of words that have no reading.
+pub const USAGE: u8 = 2;
+
+/// The status where memory ran out.
+pub const OUT_OF_MEMORY: u8 = 5;
+
 /// The end of a run on a link.
 #[derive(Clone, Copy, Debug, PartialEq, Eq)]
 pub enum Status {
@@ -28,7 +34,7 @@ impl Status {
         match self {
             Status::Done => 0,
             Status::LinkFault => 4,
-            Status::Memory => 5,
+            Status::Memory => OUT_OF_MEMORY,
             Status::Limit => 8,
             Status::BadInput => 10,
             Status::NoLeave => 11,

@@ -1,17 +1,16 @@
 //! Words, read by one simple `clap` command for each command of the program, of which the first
 //! word is the name. Ranges are looked at behind it.
 
-ghost use Rattle.std.specs.Prelude.{◌≡◌, ◌≤◌, ◌⊎◌, Some, true, false, map, codes, option_map, IfOk, IfErr, IfSome, MatchOption, string_bytes};
-ghost use Rattle.std.specs.Char.{is_ascii_digit};
-ghost use Rattle.std.specs.List.{list_all};
+ghost use Rattle.std.specs.Prelude.{◌≡◌, ◌≤◌, ◌⊎◌, true, false, map, option_map, IfOk, IfErr, IfSome, MatchOption, string_bytes};
 ghost use Rattle.std.specs.Str.Parse.{digits_value};
 ghost use Rattle.clap.specs.Words.{app_of, found_of, rows_of, rule_of, is_simple_and_free};
 ghost use Rattle.sk_tools.specs.Words.{takes_words, rows_read, value_of, is_number};
 ghost use Rattle.sk_tools.specs.Words as words_of;
-ghost use Rattle.sk_tools.specs.declared.words.Refused.TheVariants.{Memory};
+ghost use Rattle.sk_tools.specs.declared.words.Refused.TheVariants.{WantOfMemory};
 
 use clap::error::ErrorKind;
 use clap::{Arg, ArgAction, ArgMatches, Command};
+use sk_base::is_digits;
 use std::alloc::{AllocError, AllocFailed, Global};
 
 /// Why words have no reading.
@@ -19,25 +18,26 @@ use std::alloc::{AllocError, AllocFailed, Global};
 pub enum Refused {
     /// They don't fit the command, or ask for help: what is said of them.
     Words(String),
-    /// They fit the command, and a name or a number is out of its form, or no command is named.
+    /// They fit the command, and a name or a number is out of its form; or they are those of
+    /// another command, or of none.
     Usage,
     /// They weren't read: there was no memory.
-    Memory,
-}
-
-impl<T: Drop> From<AllocFailed<T>> for Refused {
-    ghost from_gives = { λ _ refused. refused ≡ Memory };
-
-    fn from(_error: AllocFailed<T>) -> Refused {
-        Refused::Memory
-    }
+    WantOfMemory,
 }
 
 impl From<AllocError> for Refused {
-    ghost from_gives = { λ _ refused. refused ≡ Memory };
+    ghost from_gives = { λ _ refused. refused ≡ WantOfMemory };
 
     fn from(_error: AllocError) -> Refused {
-        Refused::Memory
+        Refused::WantOfMemory
+    }
+}
+
+impl<T: Drop> From<AllocFailed<T>> for Refused {
+    ghost from_gives = { λ _ refused. refused ≡ WantOfMemory };
+
+    fn from(_error: AllocFailed<T>) -> Refused {
+        Refused::WantOfMemory
     }
 }
 
@@ -68,17 +68,17 @@ pub fn parse<'a>(
     requires { is_simple_and_free (app_of command) ≡ true }
     ensures taken { IfOk result (λ _. takes_words (app_of command.entry) (map string_bytes words.entry.now) ≡ true) }
     ensures rows { IfOk result (λ found. rows_of (found_of found) ≡ rows_read (app_of command.entry) (map string_bytes words.entry.now)) }
-    ensures refused { IfErr result (λ refused. (refused ≡ Refused.Memory) ⊎ (takes_words (app_of command.entry) (map string_bytes words.entry.now) ≡ false)) }
+    ensures refused { IfErr result (λ refused. (refused ≡ Refused.WantOfMemory) ⊎ (takes_words (app_of command.entry) (map string_bytes words.entry.now) ≡ false)) }
 {
     match command.try_get_matches_from(words) {
         Ok(matches) => Ok(matches),
         Err(error) => {
             if let ErrorKind::OutOfMemory = error.kind() {
-                return Err(Refused::Memory);
+                return Err(Refused::WantOfMemory);
             }
             match error.to_string(alloc) {
                 Ok(text) => Err(Refused::Words(text)),
-                Err(_) => Err(Refused::Memory),
+                Err(_) => Err(Refused::WantOfMemory),
             }
         }
     }
@@ -89,13 +89,6 @@ pub fn value<'a>(matches: &ArgMatches<'a>, id: &str) -> Option<&'a str>
     ensures { option_map (λ text. text.now) result ≡ value_of (rows_of (found_of matches.now)) id.now }
 {
     matches.get_str(id)
-}
-
-/// Whether each byte is a decimal digit.
-fn is_digits(text: &str) -> bool
-    ensures { result ≡ list_all is_ascii_digit text.now }
-{
-    text.as_bytes().iter().all(|byte| byte.is_ascii_digit())
 }
 
 /// One or more decimal digits, of a number from low to high.

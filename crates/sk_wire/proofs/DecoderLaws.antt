@@ -1,6 +1,6 @@
 -- One piece behind an open rest.
-use Rattle.std.proofs.Common.{◌≡◌, ℕ, zero, suc, ◌+◌, ◌-◌, ◌<◌, ◌≤◌, true, List, [], ◌∷◌, ◌++◌, length, take, drop, Option, Some, None, refl, sym, ap, ◌∙◌, append_assoc, length-append, subst, arith}
-use Rattle.std.proofs.lemmas.List.{nil_from_length, length-take, length-drop, take-append-drop}
+use Rattle.std.proofs.Common.{◌≡◌, ℕ, zero, suc, ◌+◌, ◌-◌, ◌≤◌, true, List, [], ◌++◌, length, take, drop, Some, None, refl, sym, ap, ◌∙◌, append_assoc, length-append, subst, arith}
+use Rattle.std.proofs.lemmas.List.{nil_from_length, length-drop, take-append-drop}
 use Rattle.std.proofs.Math.Seq.{take-length}
 use Rattle.sk_msg.specs.declared.content.Content.{Content}
 use Rattle.sk_wire.specs.declared.fault.WireFault.{WireFault}
@@ -8,7 +8,7 @@ use Rattle.sk_wire.specs.Faults.{announced}
 use Rattle.sk_wire.specs.Stream.{Announces, Parts, is_open}
 use Rattle.sk_wire.specs.Parts.{Front, Open, Whole, Broken, front, and_before, parts}
 use Rattle.sk_wire.specs.Feeding.{IsWaiting, RestsAt}
-use Rattle.sk_wire.proofs.FrontLaws.{front-open, open_front, front-short, length_behind, whole_known, whole_shorter, front-whole-more, front-broken-more}
+use Rattle.sk_wire.proofs.FrontLaws.{open_front, front-short, length_behind, whole_known, whole_shorter, front-whole-more, front-broken-more}
 use Rattle.sk_wire.proofs.StreamLaws.{parts-open, parts-broken, parts-whole, rest_fits}
 
 -- the parts of a piece behind the rest

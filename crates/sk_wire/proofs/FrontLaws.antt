@@ -1,19 +1,19 @@
 -- What stands at the front of a stream, whatever follows.
-use Rattle.std.proofs.Common.{◌≡◌, ℕ, ◌+◌, ◌-◌, ◌<◌, ◌≤◌, true, cond, List, [], ◌++◌, length, take, drop, Option, Some, None, Result, Ok, Err, refl, sym, ap, ◌∙◌, append_assoc, arith, inl, inr}
-use Rattle.std.specs.Prelude.{◌&&◌, ◌⊎◌, ◌↔◌, nat_lt, nat_le}
+use Rattle.std.proofs.Common.{◌≡◌, ℕ, ◌+◌, ◌-◌, ◌<◌, ◌≤◌, true, cond, List, ◌++◌, length, take, drop, Result, Ok, Err, refl, sym, ap, ◌∙◌, append_assoc, arith, inl, inr}
+use Rattle.std.specs.Prelude.{◌&&◌, ◌⊎◌, nat_lt, nat_le}
 use Rattle.std.specs.Int.{w32, to_le_bytes, from_le_bytes}
 use Rattle.std.proofs.lemmas.Bool.{ltb-true, le-ltb, lt-ltb, le-leb, leb-true, and_parts, cases_lt}
 use Rattle.std.proofs.lemmas.Nat.{le_bytes_4}
-use Rattle.std.proofs.lemmas.List.{append-nil, nil_from_length, length-append, length-take, length-drop, take_at, drop_at, take-append-drop, take-append-le, drop-append-le}
+use Rattle.std.proofs.lemmas.List.{append-nil, length-append, length-take, length-drop, take_at, drop_at, take-append-drop, take-append-le, drop-append-le}
 use Rattle.sk_msg.specs.declared.content.Content.{Content}
 use Rattle.sk_msg.specs.Rules.{is_message}
 use Rattle.sk_wire.specs.declared.fault.What.TheVariants.{Short, TooLong}
 use Rattle.sk_wire.specs.declared.fault.BodyFault.{BodyFault}
 use Rattle.sk_wire.specs.declared.fault.WireFault.{WireFault}
 use Rattle.sk_wire.specs.Grammar.{body, spelling, body_at}
-use Rattle.sk_wire.specs.Faults.{announced, BodyFaults, FrameFaults}
+use Rattle.sk_wire.specs.Faults.{announced, FrameFaults}
 use Rattle.sk_wire.specs.Stream.{AreBytes, Announces, is_open}
-use Rattle.sk_wire.specs.Parts.{Front, Open, Whole, Broken, front_by, front}
+use Rattle.sk_wire.specs.Parts.{Open, Whole, Broken, front_by, front}
 use Rattle.sk_wire.proofs.FieldLaws.{AreBytes-rest, AreBytes-front}
 use Rattle.sk_wire.proofs.GrammarLaws.{body_again, body_takes, body_bound, announced_is, length_spelling}
 use Rattle.sk_wire.proofs.KindFaultLaws.{body_fails, body_faulty}

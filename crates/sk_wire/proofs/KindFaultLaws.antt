@@ -4,12 +4,12 @@ use Rattle.std.specs.Prelude.{◌↔◌, MatchBool}
 use Rattle.std.specs.Int.{w8, w16, w32, w64}
 use Rattle.std.proofs.lemmas.Bool.{eqb-false, ne_eqb}
 use Rattle.sk_base.specs.Ranges.{is_name, is_text, is_time, is_payload}
-use Rattle.sk_msg.specs.Rules.{is_step_size, is_u32, is_mark, is_call, is_service_id, is_told, is_required_count, is_new_name, is_can_frame, is_eth_frame, is_lin_id, is_lin_data, is_received, is_sent}
+use Rattle.sk_msg.specs.Rules.{is_step_size, is_u32, is_mark, is_call, is_service_id, is_told, is_required_count, is_new_name, is_can_frame, is_eth_frame, is_lin_id, is_lin_payload, is_received, is_sent}
 use Rattle.sk_msg.specs.Specs.{is_new_key, is_label_count}
 use Rattle.sk_msg.specs.States.{state_number, state_of}
 use Rattle.sk_msg.specs.declared.state.State.{State}
 use Rattle.sk_msg.specs.declared.content.Content.{Content}
-use Rattle.sk_msg.specs.declared.content.Content.TheVariants.{Hello, Leave, NextStep, ServiceAdd, ServicesEnd, Status, Workflow, Abort, Can, Eth, Lin, LinResponse, Publish, Call, Reply, Refuse}
+use Rattle.sk_msg.specs.declared.content.Content.TheVariants.{Hello, Leave, NextStep, ServicesEnd, Status, Workflow, Abort, Eth, Publish, Call, Reply, Refuse}
 use Rattle.sk_msg.specs.declared.role.Role.{Role}
 use Rattle.sk_msg.specs.declared.label.Label.{Label}
 use Rattle.sk_msg.specs.declared.label.LabelKind.{LabelKind}
@@ -27,7 +27,7 @@ use Rattle.sk_wire.specs.Grammar.{whole, hello_at, leave_at, next_step_at, servi
 use Rattle.sk_wire.specs.Faults.{RowFaults, KindFaults, BodyFaults}
 use Rattle.sk_wire.specs.Stream.{AreBytes}
 use Rattle.sk_wire.proofs.FieldLaws.{Lawful, wide8, wide16, wide32, wide64}
-use Rattle.sk_wire.proofs.KindLaws.{name_lawful, text_lawful, payload_lawful, any32_lawful, time_lawful, step_size_lawful, mark_lawful, call_number_lawful, role_lawful, service_id_lawful, service_kind_lawful, label_kind_lawful, lin_checksum_lawful, lin_status_lawful, lin_mode_lawful, reason_lawful, any_state_lawful, state_lawful, can_flags_lawful, can_bytes_lawful, eth_bytes_lawful, lin_id_lawful, lin_bytes_lawful, new_key_lawful, new_label_lawful, labels_lawful, new_name_lawful, required_names_lawful, hello_lawful, leave_lawful, next_step_lawful, service_add_lawful, services_end_lawful, status_lawful, workflow_lawful, abort_lawful, can_lawful, eth_lawful, lin_lawful, lin_response_lawful, publish_lawful, call_lawful, reply_lawful, refuse_lawful}
+use Rattle.sk_wire.proofs.KindLaws.{name_lawful, text_lawful, payload_lawful, any32_lawful, time_lawful, mark_lawful, call_number_lawful, role_lawful, service_id_lawful, service_kind_lawful, lin_checksum_lawful, lin_status_lawful, lin_mode_lawful, any_state_lawful, state_lawful, can_flags_lawful, lin_id_lawful, new_key_lawful, new_label_lawful, new_name_lawful, hello_lawful, leave_lawful, next_step_lawful, service_add_lawful, services_end_lawful, status_lawful, workflow_lawful, abort_lawful, can_lawful, eth_lawful, lin_lawful, lin_response_lawful, publish_lawful, call_lawful, reply_lawful, refuse_lawful}
 use Rattle.sk_wire.proofs.FaultLaws.{Judged, bind_err, test_err, number_judged, counted_judged, choice_judged, nothing_judged, then_judged, held_judged, such_that_judged, list_judged}
 
 -- ---- the types of fields
@@ -116,7 +116,7 @@ unfolding eth_bytes
 eth_bytes_judged = such_that_judged is_eth_frame payload 4098 payload_lawful payload_judged
 
 lin_bytes_judged : (carries : Bool) (checksum : LinChecksum) → Judged (List ℕ) (lin_bytes carries checksum)
-lin_bytes_judged carries checksum = such_that_judged (is_lin_data carries checksum) payload 4098 payload_lawful payload_judged
+lin_bytes_judged carries checksum = such_that_judged (is_lin_payload carries checksum) payload 4098 payload_lawful payload_judged
 
 new_label_judged : (before : List Label) → Judged Label (new_label before)
 new_label_judged before =

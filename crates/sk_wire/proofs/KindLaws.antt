@@ -5,7 +5,7 @@ use Rattle.std.specs.Int.{w8, w16, w32, w64}
 use Rattle.std.proofs.lemmas.Bool.{eqb-true, leb-true, ltb-true, and_parts}
 use Rattle.sk_base.specs.Ranges.{is_time, is_name, is_text, is_payload}
 use Rattle.sk_base.proofs.TextLaws.{is_text-short, is_name-short}
-use Rattle.sk_msg.specs.Rules.{is_step_size, is_u32, is_mark, is_call, is_service_id, is_told, is_required_count, is_new_name, is_can_frame, is_eth_frame, is_lin_id, is_lin_data, is_received, is_sent}
+use Rattle.sk_msg.specs.Rules.{is_step_size, is_u32, is_mark, is_call, is_service_id, is_told, is_required_count, is_new_name, is_can_frame, is_eth_frame, is_lin_id, is_lin_payload, is_received, is_sent}
 use Rattle.sk_msg.specs.Specs.{is_new_key, is_label_count}
 use Rattle.sk_msg.specs.States.{state_number, state_of}
 use Rattle.sk_msg.specs.declared.state.State.{State}
@@ -25,7 +25,7 @@ use Rattle.sk_msg.specs.declared.bus.LinMode.{LinMode}
 use Rattle.sk_msg.specs.declared.bus.LinMode.TheVariants as modes
 use Rattle.sk_msg.specs.declared.reason.RefuseReason.{RefuseReason}
 use Rattle.sk_msg.specs.declared.reason.RefuseReason.TheVariants as reasons
-use Rattle.sk_wire.specs.Fields.{Field, choice, ◌&◌, such_that}
+use Rattle.sk_wire.specs.Fields.{choice, ◌&◌, such_that}
 use Rattle.sk_wire.specs.Kinds.{name, text, payload, any32, time, step_size, mark, call, role, role_number, role_of, service_id, service_kind, service_kind_number, service_kind_of, label_kind, label_kind_number, label_kind_of, lin_checksum, lin_checksum_number, lin_checksum_of, lin_status, lin_status_number, lin_status_of, lin_mode, lin_mode_number, lin_mode_of, reason, reason_number, reason_of, new_label, labels, state, new_name, required_names, Flags, flags, flags_number, flags_of, can_flags, can_bytes, eth_bytes, lin_id, lin_bytes, hello_row, leave_row, next_step_row, service_add_row, services_end_row, status_row, workflow_row, abort_row, can_row, eth_row, lin_row, lin_response_row, publish_row, call_row, reply_row, refuse_row}
 use Rattle.sk_wire.proofs.FieldLaws.{Lawful, wide8, wide16, wide32, wide64, number_lawful, counted_lawful, choice_lawful, nothing_lawful, then_lawful, held_lawful, such_that_lawful, list_lawful}
 
@@ -361,7 +361,7 @@ unfolding eth_bytes
 eth_bytes_lawful = such_that_lawful is_eth_frame payload 4098 payload_lawful
 
 pub lin_bytes_lawful : (carries : Bool) (checksum : LinChecksum) → Lawful (List ℕ) (lin_bytes carries checksum) 4098
-lin_bytes_lawful carries checksum = such_that_lawful (is_lin_data carries checksum) payload 4098 payload_lawful
+lin_bytes_lawful carries checksum = such_that_lawful (is_lin_payload carries checksum) payload 4098 payload_lawful
 
 label_count_range : (n : ℕ) → is_label_count n ≡ true → (n ≤ 16) × (n < 2 ^ 8)
 unfolding is_label_count

@@ -29,7 +29,7 @@ module _ {A : Type 0} (item : List A → Field A) where
 
   pub ends : (e : ReadError) (count : ℕ) (start : List ℕ) (i : ℕ) (front : List A) (bytes : List ℕ) → i < count
       → Fails e ((item front).at bytes) → SoFar count start i front bytes → Fails e (items_at item count [] start)
-  ends errors.Memory count start i front bytes lt h so_far = tt
+  ends errors.WantOfMemory count start i front bytes lt h so_far = tt
   ends (errors.Fault f) count start i front bytes lt h so_far =
       let k : count - i ≡ suc (count - (i + 1)) = omega arith in
       let one : with_front front (items_at item (count - i) front bytes) ≡ Err f = rw (k, h) refl in

@@ -1,13 +1,12 @@
 -- The functions on streams answer the grammar's one reading.
-use Rattle.std.proofs.Common.{◌≡◌, ℕ, zero, suc, ◌+◌, ◌-◌, ◌≤◌, true, List, [], ◌∷◌, ◌++◌, length, Option, Some, None, refl, sym, ap, subst, ◌∙◌, append_assoc, length-append, arith}
+use Rattle.std.proofs.Common.{◌≡◌, ℕ, zero, suc, ◌+◌, ◌-◌, ◌≤◌, List, [], ◌∷◌, ◌++◌, length, Option, Some, None, refl, sym, ap, subst, ◌∙◌, append_assoc, length-append, arith}
 use Rattle.std.specs.Prelude.{IsTrue, ◌↔◌}
 use Rattle.std.specs.List.{flat_map, AllByRecursion}
 use Rattle.sk_msg.specs.declared.content.Content.{Content}
 use Rattle.sk_msg.specs.Rules.{is_message}
 use Rattle.sk_wire.specs.declared.fault.WireFault.{WireFault}
 use Rattle.sk_wire.specs.Grammar.{spelling, Spells}
-use Rattle.sk_wire.specs.Faults.{FrameFaults}
-use Rattle.sk_wire.specs.Stream.{AreBytes, is_open, Parts, Ends, Reads}
+use Rattle.sk_wire.specs.Stream.{AreBytes, Parts, Ends, Reads}
 use Rattle.sk_wire.specs.Parts.{Front, Open, Whole, Broken, front, and_before, parts}
 use Rattle.sk_wire.proofs.FieldLaws.{AreBytes-rest}
 use Rattle.sk_wire.proofs.GrammarLaws.{same_spelling}

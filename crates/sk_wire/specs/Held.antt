@@ -33,40 +33,40 @@ abbrev pub CanParts : Type 0
 CanParts = ℕ × (ℕ × (ℕ × (ℕ × (Flags × List ℕ))))
 
 abbrev pub can_parts : ℕ → ℕ → ℕ → CanFrame → CanParts
-can_parts service stamp mark f = (service, (stamp, (mark, (f.id, (flags f.extended f.fd, f.«data»)))))
+can_parts service stamp mark f = (service, (stamp, (mark, (f.id, (flags f.extended f.fd, f.payload)))))
 
 abbrev pub can_of : CanParts → Content
 can_of x = Can x.0 x.1.0 x.1.1.0 (record {
   id = x.1.1.1.0;
   extended = x.1.1.1.1.0.0;
   fd = x.1.1.1.1.0.1;
-  «data» = x.1.1.1.1.1;
+  payload = x.1.1.1.1.1;
 })
 
 abbrev pub LinParts : Type 0
 LinParts = ℕ × (ℕ × (ℕ × (ℕ × (LinChecksum × (LinStatus × List ℕ)))))
 
 abbrev pub lin_parts : ℕ → ℕ → ℕ → LinFrame → LinParts
-lin_parts service stamp mark f = (service, (stamp, (mark, (f.id, (f.checksum, (f.status, f.«data»))))))
+lin_parts service stamp mark f = (service, (stamp, (mark, (f.id, (f.checksum, (f.status, f.payload))))))
 
 abbrev pub lin_of : LinParts → Content
 lin_of x = Lin x.0 x.1.0 x.1.1.0 (record {
   id = x.1.1.1.0;
   checksum = x.1.1.1.1.0;
   status = x.1.1.1.1.1.0;
-  «data» = x.1.1.1.1.1.1;
+  payload = x.1.1.1.1.1.1;
 })
 
 abbrev pub ResponseParts : Type 0
 ResponseParts = ℕ × (ℕ × (ℕ × (ℕ × (LinMode × (LinChecksum × List ℕ)))))
 
 abbrev pub response_parts : ℕ → ℕ → ℕ → responses.LinResponse → ResponseParts
-response_parts service stamp mark r = (service, (stamp, (mark, (r.id, (r.mode, (r.checksum, r.«data»))))))
+response_parts service stamp mark r = (service, (stamp, (mark, (r.id, (r.mode, (r.checksum, r.payload))))))
 
 abbrev pub response_of : ResponseParts → Content
 response_of x = LinResponse x.0 x.1.0 x.1.1.0 (record {
   id = x.1.1.1.0;
   mode = x.1.1.1.1.0;
   checksum = x.1.1.1.1.1.0;
-  «data» = x.1.1.1.1.1.1;
+  payload = x.1.1.1.1.1.1;
 })

@@ -2,7 +2,7 @@
 use Rattle.std.specs.Prelude.{ℕ, Bool, true, false, ◌+◌, List, Option, Some, None, ◌==◌, if◌then◌else◌}
 use Rattle.std.specs.Int.{w8, w16, w32, w64}
 use Rattle.sk_base.specs.Ranges.{is_name, is_text, is_time, is_payload}
-use Rattle.sk_msg.specs.Rules.{is_step_size, is_u32, is_mark, is_call, is_service_id, is_told, is_required_count, is_new_name, is_can_frame, is_eth_frame, is_lin_id, is_lin_data, is_received, is_sent}
+use Rattle.sk_msg.specs.Rules.{is_step_size, is_u32, is_mark, is_call, is_service_id, is_told, is_required_count, is_new_name, is_can_frame, is_eth_frame, is_lin_id, is_lin_payload, is_received, is_sent}
 use Rattle.sk_msg.specs.Specs.{is_new_key, is_label_count}
 use Rattle.sk_msg.specs.States.{state_number, state_of}
 use Rattle.sk_msg.specs.declared.state.State.{State}
@@ -224,9 +224,9 @@ eth_bytes = such_that is_eth_frame payload
 unfoldable pub lin_id : Field ℕ
 lin_id = number w8 is_lin_id
 
--- the rule on checksum and data is judged at the bytes
+-- the rule on checksum and payload is judged at the payload
 abbrev pub lin_bytes : Bool → LinChecksum → Field (List ℕ)
-lin_bytes carries checksum = such_that (is_lin_data carries checksum) payload
+lin_bytes carries checksum = such_that (is_lin_payload carries checksum) payload
 
 -- ## The kinds
 

@@ -1,5 +1,5 @@
 -- The parts of a stream as functions: the plain program beside the grammar.
-use Rattle.std.specs.Prelude.{ℕ, zero, suc, ◌+◌, ◌-◌, ◌&&◌, Bool, true, false, not, List, [], ◌∷◌, length, take, drop, Option, Some, None, Result, Ok, Err, nat_lt, nat_le, if◌then◌else◌}
+use Rattle.std.specs.Prelude.{ℕ, zero, suc, ◌+◌, ◌-◌, List, [], ◌∷◌, length, take, drop, Option, Some, None, Result, Ok, Err, nat_lt, if◌then◌else◌}
 use Rattle.sk_msg.specs.declared.content.Content.{Content}
 use Rattle.sk_wire.specs.declared.fault.What.TheVariants.{Short, TooLong}
 use Rattle.sk_wire.specs.declared.fault.BodyFault.{BodyFault}

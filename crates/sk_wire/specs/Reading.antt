@@ -23,7 +23,7 @@ bad bytes = record { left = length bytes; what = BadField }
 
 -- a call answers what reading gives, seen by view, unless memory ran out
 abbrev pub Fails : {Y : Type 0} → ReadError → Result Y BodyFault → Type 0
-Fails errors.Memory reading = Unit {0}
+Fails errors.WantOfMemory reading = Unit {0}
 Fails (errors.Fault f) reading = reading ≡ Err f
 
 abbrev pub Gives : {X Y : Type 0} → (X → Y) → Result X ReadError → Result Y BodyFault → Type 0

@@ -9,7 +9,9 @@ ghost use Rattle.sk_wire.specs.Fed.{fed_parts};
 ghost use Rattle.sk_wire.specs.Feeding.{Feeds};
 
 use crate::fault::WireFault;
-use crate::frames::{Front, announced_in, frames_of, front_of};
+use crate::frames::{
+    Front, LENGTH_BYTES, LONGEST_BODY, SHORTEST_BODY, announced_in, frames_of, front_of,
+};
 use sk_base::WantOfMemory;
 use sk_msg::Message;
 use std::alloc::{AllocError, Global};
@@ -67,12 +69,14 @@ impl Decoder {
         self.buffer.len()
     }
 
-    /// Takes the next piece of the stream. After want of memory nothing has changed.
+    /// Takes the next piece of the stream, where fewer than 2^63 bytes are then fed in all. It
+    /// answers the messages that the piece makes whole, and the fault behind them, if any; behind a
+    /// fault nothing is read. After want of memory nothing has changed.
     pub fn feed(&mut self, piece: &[u8]) -> Result<Fed, WantOfMemory>
         requires { self.old.fed + length piece.now < 2 ^ 63 }
         ensures read { IfOk result (λ fed. Feeds self.old piece.now fed.messages.items fed.fault self.new) }
         ensures fed { OnOk result (self.new.fed ≡ self.old.fed + length piece.now) }
-        ensures err { OnErr result (self.new ≡ self.old) }
+        ensures same { OnErr result (self.new ≡ self.old) }
     {
         if let Some(fault) = self.fault {
             self.fed += piece.len() as u64;
@@ -108,7 +112,7 @@ fn read_more(
     requires rest { IsTrue (is_open buffer.old.items) }
     requires within { length buffer.old.items ≤ fed }
     ensures read { IfOk result (λ f. parts (fed - length buffer.old.items) (buffer.old.items ++ piece.now) ≡ fed_parts f buffer.new.items) }
-    ensures err { OnErr result (take (length buffer.old.items) buffer.new.items ≡ buffer.old.items) }
+    ensures kept { OnErr result (take (length buffer.old.items) buffer.new.items ≡ buffer.old.items) }
 {
     if buffer.is_empty() {
         read_fresh(alloc, buffer, fed, piece, Vec::new(alloc))
@@ -127,7 +131,7 @@ fn read_fresh(
 ) -> Result<Fed, WantOfMemory>
     requires { at + length piece.now < 2 ^ 64 }
     ensures read { IfOk result (λ f. fed_parts f buffer.new.items ≡ following before.items (parts at piece.now)) }
-    ensures err { OnErr result (buffer.new.items ≡ buffer.old.items) }
+    ensures same { OnErr result (buffer.new.items ≡ buffer.old.items) }
 {
     let frames = frames_of(alloc, before, at, piece)?;
     let kept = Vec::from_slice(alloc, frames.rest)?;
@@ -144,7 +148,7 @@ fn read_on(alloc: Global, buffer: &mut Vec<u8>, fed: u64, piece: &[u8]) -> Resul
     requires rest { IsTrue (is_open buffer.old.items) }
     requires within { length buffer.old.items ≤ fed }
     ensures read { IfOk result (λ f. parts (fed - length buffer.old.items) (buffer.old.items ++ piece.now) ≡ fed_parts f buffer.new.items) }
-    ensures err { OnErr result (take (length buffer.old.items) buffer.new.items ≡ buffer.old.items) }
+    ensures kept { OnErr result (take (length buffer.old.items) buffer.new.items ≡ buffer.old.items) }
 {
     let start = fed - buffer.len() as u64;
     let used = fill(buffer, piece)?;
@@ -172,25 +176,26 @@ fn read_on(alloc: Global, buffer: &mut Vec<u8>, fed: u64, piece: &[u8]) -> Resul
     }
 }
 
-/// Fills the buffer from the piece until its first message is whole, and says how many bytes it took.
+/// Fills the buffer from the piece until its first message is whole, and says how many bytes it
+/// took.
 fn fill(buffer: &mut Vec<u8>, piece: &[u8]) -> Result<usize, AllocError>
     requires { IsTrue (is_open buffer.old.items) }
     ensures used { IfOk result (λ n. (n ≤ length piece.now) × (buffer.new.items ≡ buffer.old.items ++ take n piece.now)) }
     // No byte is taken that isn't of the first message.
     ensures most { OnOk result (Announces buffer.new.items → length buffer.new.items ≤ 4 + announced buffer.new.items) }
     ensures all { IfOk result (λ n. IsTrue (is_open buffer.new.items) → n ≡ length piece.now) }
-    ensures err { OnErr result (take (length buffer.old.items) buffer.new.items ≡ buffer.old.items) }
+    ensures kept { OnErr result (take (length buffer.old.items) buffer.new.items ≡ buffer.old.items) }
 {
-    let head = fill_to(buffer, 4, piece)?;
-    if buffer.len() < 4 {
+    let head = fill_to(buffer, LENGTH_BYTES, piece)?;
+    if buffer.len() < LENGTH_BYTES {
         return Ok(head);
     }
-    let announced = announced_in(buffer) as usize;
-    if announced < 2 || announced > 8192 {
+    let announced = announced_in(buffer);
+    if announced < SHORTEST_BODY || announced > LONGEST_BODY {
         return Ok(head);
     }
     let (_, behind) = piece.split_at(head);
-    let more = fill_to(buffer, 4 + announced, behind)?;
+    let more = fill_to(buffer, LENGTH_BYTES + announced as usize, behind)?;
     Ok(head + more)
 }
 
@@ -199,7 +204,7 @@ fn fill_to(buffer: &mut Vec<u8>, len: usize, piece: &[u8]) -> Result<usize, Allo
     ensures used { IfOk result (λ n. (n ≤ length piece.now) × (buffer.new.items ≡ buffer.old.items ++ take n piece.now)) }
     ensures most { IfOk result (λ n. (length buffer.new.items ≤ len) ⊎ (n ≡ 0)) }
     ensures all { IfOk result (λ n. length buffer.new.items < len → n ≡ length piece.now) }
-    ensures err { OnErr result (buffer.new.items ≡ buffer.old.items) }
+    ensures same { OnErr result (buffer.new.items ≡ buffer.old.items) }
 {
     let missing = len.saturating_sub(buffer.len()).min(piece.len());
     let (taken, _) = piece.split_at(missing);

@@ -1,7 +1,7 @@
 //! Why bytes are no message, and where.
 
 ghost use Rattle.std.specs.Prelude.{◌≡◌};
-ghost use Rattle.sk_wire.specs.declared.fault.ReadError.TheVariants.{Memory};
+ghost use Rattle.sk_wire.specs.declared.fault.ReadError.TheVariants as errors;
 
 use sk_base::WantOfMemory;
 use std::alloc::{AllocError, AllocFailed};
@@ -26,6 +26,7 @@ pub enum What {
 pub struct WireFault {
     /// How many bytes of the stream stand before it.
     pub at: u64,
+    /// What is wrong there.
     pub what: What,
 }
 
@@ -34,36 +35,39 @@ pub struct WireFault {
 pub struct BodyFault {
     /// How many bytes the body has from the fault on.
     pub left: usize,
+    /// What is wrong there.
     pub what: What,
 }
 
 /// Why a body wasn't read.
 #[derive(Clone, Copy, Debug, PartialEq, Eq)]
 pub enum ReadError {
-    Memory,
+    /// Memory ran out. Whether the body has a fault isn't known.
+    WantOfMemory,
+    /// It is no body of the format; with its first fault.
     Fault(BodyFault),
 }
 
+impl From<WantOfMemory> for ReadError {
+    ghost from_gives = { λ _ error. error ≡ errors.WantOfMemory };
+
+    fn from(_error: WantOfMemory) -> ReadError {
+        ReadError::WantOfMemory
+    }
+}
+
 impl From<AllocError> for ReadError {
-    ghost from_gives = { λ _ error. error ≡ Memory };
+    ghost from_gives = { λ _ error. error ≡ errors.WantOfMemory };
 
     fn from(_error: AllocError) -> ReadError {
-        ReadError::Memory
+        ReadError::WantOfMemory
     }
 }
 
 impl<T: Drop> From<AllocFailed<T>> for ReadError {
-    ghost from_gives = { λ _ error. error ≡ Memory };
+    ghost from_gives = { λ _ error. error ≡ errors.WantOfMemory };
 
     fn from(_error: AllocFailed<T>) -> ReadError {
-        ReadError::Memory
-    }
-}
-
-impl From<WantOfMemory> for ReadError {
-    ghost from_gives = { λ _ error. error ≡ Memory };
-
-    fn from(_error: WantOfMemory) -> ReadError {
-        ReadError::Memory
+        ReadError::WantOfMemory
     }
 }

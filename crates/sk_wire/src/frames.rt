@@ -17,13 +17,13 @@ use sk_msg::{Content, Message};
 use std::alloc::Global;
 
 /// How many bytes a length takes.
-const LENGTH_BYTES: usize = 4;
+pub const LENGTH_BYTES: usize = 4;
 
-/// The shortest body: a version and a kind.
-const SHORTEST_BODY: u32 = 2;
+/// The shortest body, in bytes: a version and a kind.
+pub const SHORTEST_BODY: u32 = 2;
 
 /// The longest body, in bytes.
-const LONGEST_BODY: u32 = 8192;
+pub const LONGEST_BODY: u32 = 8192;
 
 /// What stands at the front of a stream.
 #[derive(Drop)]
@@ -39,9 +39,12 @@ pub enum Front<'a> {
 /// The messages of a stream, and how it ends.
 #[derive(Drop)]
 pub struct Frames<'a> {
+    /// The messages before its end, in order.
     pub messages: Vec<Message>,
-    /// The open rest.
+    /// The open rest; empty with a fault.
     pub rest: &'a [u8],
+    /// What stands behind the messages, with its offset in the whole stream; None where it is the
+    /// open rest.
     pub fault: Option<WireFault>,
 }
 
@@ -71,7 +74,7 @@ fn put_frame(to: &mut Vec<u8>, content: &Content) -> Result<(), WantOfMemory>
 pub fn encode(message: &Message, to: &mut Vec<u8>) -> Result<(), WantOfMemory>
     ensures ok { OnOk result ((bytes : List ℕ) × grammar.Spells message.now bytes × (to.new.items ≡ to.old.items ++ bytes)) }
     ensures size { OnOk result ((length to.old.items + 6 ≤ length to.new.items) × (length to.new.items ≤ length to.old.items + 8196)) }
-    ensures err { OnErr result (to.new.items ≡ to.old.items) }
+    ensures same { OnErr result (to.new.items ≡ to.old.items) }
 {
     let start = to.len();
     match put_frame(to, message.content()) {
@@ -121,7 +124,7 @@ pub fn front_of<'a>(alloc: Global, bytes: &'a [u8]) -> Result<Front<'a>, WantOfM
     match read_body(alloc, body) {
         Ok(content) => Ok(Front::Whole(Message::new(content), rest)),
         Err(error) => match error {
-            ReadError::Memory => Err(WantOfMemory),
+            ReadError::WantOfMemory => Err(WantOfMemory),
             ReadError::Fault(fault) => Ok(Front::Broken(WireFault {
                 at: (LENGTH_BYTES + len).saturating_sub(fault.left) as u64,
                 what: fault.what,
@@ -130,7 +133,8 @@ pub fn front_of<'a>(alloc: Global, bytes: &'a [u8]) -> Result<Front<'a>, WantOfM
     }
 }
 
-/// The messages of bytes that have this offset in the stream, behind messages that were read before.
+/// The messages of bytes that have this offset in the stream, behind messages that were read
+/// before.
 pub fn frames_of<'a>(
     alloc: Global,
     before: Vec<Message>,

@@ -1,8 +1,8 @@
-//! The kinds of messages: the fields of each, read and written, in the order of the kinds.
+//! The kinds of messages: the fields of each, read and beside them written, in the order of the
+//! kinds.
 
-ghost use Rattle.std.specs.Prelude.{◌≡◌, ◌+◌, ◌≤◌, ◌==◌, length, Ok, Err, IsTrue, if◌then◌else◌};
+ghost use Rattle.std.specs.Prelude.{◌≡◌, ◌≤◌, ◌==◌, length, Ok, Err, IsTrue, if◌then◌else◌};
 ghost use Rattle.sk_msg.specs.Rules.{is_message};
-ghost use Rattle.sk_msg.specs.Rules as rules;
 ghost use Rattle.sk_wire.specs.Reading.{Gives, bad};
 ghost use Rattle.sk_wire.specs.Kinds as rows;
 ghost use Rattle.sk_wire.specs.Held as held;
@@ -10,49 +10,25 @@ ghost use Rattle.sk_wire.specs.Grammar as grammar;
 ghost use Rattle.sk_wire.specs.Puts.{Puts};
 
 use crate::choices::{
-    put_can_flags, put_lin_checksum, put_lin_mode, put_lin_status, put_reason, put_service_kind,
-    put_state,
+    put_can_flags, put_lin_checksum, put_lin_mode, put_lin_status, put_reason, put_role,
+    put_service_kind, put_state,
 };
 use crate::fault::{BodyFault, ReadError, What};
 use crate::fields::{
-    put_any32, put_call, put_lin_id, put_mark, put_name, put_payload, put_role, put_service_id,
+    put_any32, put_call, put_lin_id, put_mark, put_name, put_payload, put_service_id,
     put_step_size, put_text, put_time,
 };
 use crate::lists::{put_labels, put_required_names};
 use crate::numbers::{Cursor, bad_field, put_u8};
 use sk_base::{Bytes, Name, SimTime, Text, WantOfMemory};
-use sk_msg::rules::{is_can_frame, is_eth_frame, is_lin_data};
+use sk_msg::rules::{is_can_frame, is_eth_frame, is_lin_payload, is_received, is_sent};
 use sk_msg::{
-    Announced, CanFrame, Content, LinChecksum, LinFrame, LinMode, LinResponse, LinStatus, Names,
-    Role, Service, Spec, State,
+    Announced, CanFrame, Content, LinChecksum, LinFrame, LinResponse, Role, Service, Spec, State,
 };
 use std::alloc::Global;
 
 /// The one version of the format.
 const VERSION: u8 = 1;
-
-/// Whether a LIN frame of this status has data.
-fn is_received(status: LinStatus) -> bool
-    ensures { result ≡ rules.is_received status }
-{
-    match status {
-        LinStatus::RxOk => true,
-        LinStatus::RxError => false,
-        LinStatus::RxNoResponse => false,
-        LinStatus::Wakeup => false,
-    }
-}
-
-/// Whether a LIN response of this mode has data.
-fn is_sent(mode: LinMode) -> bool
-    ensures { result ≡ rules.is_sent mode }
-{
-    match mode {
-        LinMode::Unused => false,
-        LinMode::Rx => false,
-        LinMode::TxUnconditional => true,
-    }
-}
 
 impl<'a> Cursor<'a> {
     /// Nothing stands behind the last field.
@@ -63,57 +39,6 @@ impl<'a> Cursor<'a> {
             Ok(content)
         } else {
             Err(bad_field(self.left()))
-        }
-    }
-
-    /// The bytes of a CAN frame, where the frame is judged.
-    fn can_bytes(
-        &mut self,
-        alloc: Global,
-        id: u32,
-        extended: bool,
-        fd: bool,
-    ) -> Result<Bytes, ReadError>
-        ensures { Gives (λ bytes. (bytes, self.new)) result ((rows.can_bytes id (rows.flags extended fd)).at self.old) }
-    {
-        let left = self.left();
-        let bytes = self.payload(alloc)?;
-        if is_can_frame(id, extended, fd, bytes.as_slice()) {
-            Ok(bytes)
-        } else {
-            Err(bad_field(left))
-        }
-    }
-
-    /// The bytes of an Ethernet frame.
-    #[tactic(auto, unfolding(crate::specs::Kinds::eth_bytes))]
-    fn eth_bytes(&mut self, alloc: Global) -> Result<Bytes, ReadError>
-        ensures { Gives (λ bytes. (bytes, self.new)) result (rows.eth_bytes.at self.old) }
-    {
-        let left = self.left();
-        let bytes = self.payload(alloc)?;
-        if is_eth_frame(bytes.as_slice()) {
-            Ok(bytes)
-        } else {
-            Err(bad_field(left))
-        }
-    }
-
-    /// The bytes of a LIN frame or response, where its checksum and they are judged.
-    fn lin_bytes(
-        &mut self,
-        alloc: Global,
-        carries: bool,
-        checksum: LinChecksum,
-    ) -> Result<Bytes, ReadError>
-        ensures { Gives (λ bytes. (bytes, self.new)) result ((rows.lin_bytes carries checksum).at self.old) }
-    {
-        let left = self.left();
-        let bytes = self.payload(alloc)?;
-        if is_lin_data(carries, checksum, bytes.as_slice()) {
-            Ok(bytes)
-        } else {
-            Err(bad_field(left))
         }
     }
 
@@ -130,7 +55,19 @@ impl<'a> Cursor<'a> {
             address,
         })
     }
+}
 
+#[tactic(auto, using(crate::proofs::PutLaws::puts))]
+fn put_hello(to: &mut Vec<u8>, name: &Name, role: Role, address: &Text) -> Result<(), WantOfMemory>
+    ensures { Puts result to.old.items to.new.items (rows.hello_row.spelling (name.now, (role, address.now))) }
+{
+    put_name(to, name)?;
+    put_role(to, role)?;
+    put_text(to, address)
+}
+
+// Leave, ServicesEnd and Abort have no fields to write.
+impl<'a> Cursor<'a> {
     #[tactic(auto, unfolding(crate::specs::Grammar::leave_at))]
     fn leave(&self) -> Result<Content, ReadError>
         ensures { Gives (λ content. content) result (grammar.leave_at self.now) }
@@ -146,7 +83,17 @@ impl<'a> Cursor<'a> {
         let duration = self.step_size()?;
         self.end(Content::NextStep { at, duration })
     }
+}
 
+#[tactic(auto, using(crate::proofs::PutLaws::puts))]
+fn put_next_step(to: &mut Vec<u8>, at: SimTime, duration: u64) -> Result<(), WantOfMemory>
+    ensures { Puts result to.old.items to.new.items (rows.next_step_row.spelling (at, duration)) }
+{
+    put_time(to, at)?;
+    put_step_size(to, duration)
+}
+
+impl<'a> Cursor<'a> {
     #[tactic(auto, unfolding(crate::specs::Grammar::service_add_at))]
     fn service_add(&mut self, alloc: Global) -> Result<Content, ReadError>
         ensures { Gives (λ content. content) result (grammar.service_add_at self.old) }
@@ -168,206 +115,6 @@ impl<'a> Cursor<'a> {
             service: Announced::new(alloc, service)?,
         })
     }
-
-    #[tactic(auto, unfolding(crate::specs::Grammar::services_end_at))]
-    fn services_end(&self) -> Result<Content, ReadError>
-        ensures { Gives (λ content. content) result (grammar.services_end_at self.now) }
-    {
-        self.end(Content::ServicesEnd)
-    }
-
-    #[tactic(auto, unfolding(crate::specs::Grammar::status_at))]
-    fn status(&mut self) -> Result<Content, ReadError>
-        ensures { Gives (λ content. content) result (grammar.status_at self.old) }
-    {
-        let state = self.state()?;
-        let until = self.time()?;
-        self.end(Content::Status { state, until })
-    }
-
-    #[tactic(auto, unfolding(crate::specs::Grammar::workflow_at))]
-    fn workflow(&mut self, alloc: Global) -> Result<Content, ReadError>
-        ensures { Gives (λ content. content) result (grammar.workflow_at self.old) }
-    {
-        let required = self.required_names(alloc)?;
-        self.end(Content::Workflow { required })
-    }
-
-    #[tactic(auto, unfolding(crate::specs::Grammar::abort_at))]
-    fn abort(&self) -> Result<Content, ReadError>
-        ensures { Gives (λ content. content) result (grammar.abort_at self.now) }
-    {
-        self.end(Content::Abort)
-    }
-
-    #[tactic(auto, unfolding(crate::specs::Grammar::can_at))]
-    fn can(&mut self, alloc: Global) -> Result<Content, ReadError>
-        ensures { Gives (λ content. content) result (grammar.can_at self.old) }
-    {
-        let service = self.any32()?;
-        let stamp = self.time()?;
-        let mark = self.mark()?;
-        let id = self.any32()?;
-        let (extended, fd) = self.can_flags()?;
-        let data = self.can_bytes(alloc, id, extended, fd)?;
-        let frame = CanFrame {
-            id,
-            extended,
-            fd,
-            data,
-        };
-        self.end(Content::Can {
-            service,
-            stamp,
-            mark,
-            frame,
-        })
-    }
-
-    #[tactic(auto, unfolding(crate::specs::Grammar::eth_at))]
-    fn eth(&mut self, alloc: Global) -> Result<Content, ReadError>
-        ensures { Gives (λ content. content) result (grammar.eth_at self.old) }
-    {
-        let service = self.any32()?;
-        let stamp = self.time()?;
-        let mark = self.mark()?;
-        let data = self.eth_bytes(alloc)?;
-        self.end(Content::Eth {
-            service,
-            stamp,
-            mark,
-            data,
-        })
-    }
-
-    #[tactic(auto, unfolding(crate::specs::Grammar::lin_at))]
-    fn lin(&mut self, alloc: Global) -> Result<Content, ReadError>
-        ensures { Gives (λ content. content) result (grammar.lin_at self.old) }
-    {
-        let service = self.any32()?;
-        let stamp = self.time()?;
-        let mark = self.mark()?;
-        let id = self.lin_id()?;
-        let checksum = self.lin_checksum()?;
-        let status = self.lin_status()?;
-        let data = self.lin_bytes(alloc, is_received(status), checksum)?;
-        let frame = LinFrame {
-            id,
-            checksum,
-            status,
-            data,
-        };
-        self.end(Content::Lin {
-            service,
-            stamp,
-            mark,
-            frame,
-        })
-    }
-
-    #[tactic(auto, unfolding(crate::specs::Grammar::lin_response_at))]
-    fn lin_response(&mut self, alloc: Global) -> Result<Content, ReadError>
-        ensures { Gives (λ content. content) result (grammar.lin_response_at self.old) }
-    {
-        let service = self.any32()?;
-        let stamp = self.time()?;
-        let mark = self.mark()?;
-        let id = self.lin_id()?;
-        let mode = self.lin_mode()?;
-        let checksum = self.lin_checksum()?;
-        let data = self.lin_bytes(alloc, is_sent(mode), checksum)?;
-        let response = LinResponse {
-            id,
-            mode,
-            checksum,
-            data,
-        };
-        self.end(Content::LinResponse {
-            service,
-            stamp,
-            mark,
-            response,
-        })
-    }
-
-    #[tactic(auto, unfolding(crate::specs::Grammar::publish_at))]
-    fn publish(&mut self, alloc: Global) -> Result<Content, ReadError>
-        ensures { Gives (λ content. content) result (grammar.publish_at self.old) }
-    {
-        let service = self.any32()?;
-        let stamp = self.time()?;
-        let mark = self.mark()?;
-        let data = self.payload(alloc)?;
-        self.end(Content::Publish {
-            service,
-            stamp,
-            mark,
-            data,
-        })
-    }
-
-    #[tactic(auto, unfolding(crate::specs::Grammar::call_at))]
-    fn call_message(&mut self, alloc: Global) -> Result<Content, ReadError>
-        ensures { Gives (λ content. content) result (grammar.call_at self.old) }
-    {
-        let service = self.any32()?;
-        let stamp = self.time()?;
-        let mark = self.mark()?;
-        let call = self.call()?;
-        let data = self.payload(alloc)?;
-        self.end(Content::Call {
-            service,
-            stamp,
-            mark,
-            call,
-            data,
-        })
-    }
-
-    #[tactic(auto, unfolding(crate::specs::Grammar::reply_at))]
-    fn reply(&mut self, alloc: Global) -> Result<Content, ReadError>
-        ensures { Gives (λ content. content) result (grammar.reply_at self.old) }
-    {
-        let service = self.any32()?;
-        let stamp = self.time()?;
-        let mark = self.mark()?;
-        let client = self.any32()?;
-        let call = self.call()?;
-        let data = self.payload(alloc)?;
-        self.end(Content::Reply {
-            service,
-            stamp,
-            mark,
-            client,
-            call,
-            data,
-        })
-    }
-
-    #[tactic(auto, unfolding(crate::specs::Grammar::refuse_at))]
-    fn refuse(&mut self) -> Result<Content, ReadError>
-        ensures { Gives (λ content. content) result (grammar.refuse_at self.old) }
-    {
-        let reason = self.reason()?;
-        self.end(Content::Refuse { reason })
-    }
-}
-
-#[tactic(auto, using(crate::proofs::PutLaws::puts))]
-fn put_hello(to: &mut Vec<u8>, name: &Name, role: Role, address: &Text) -> Result<(), WantOfMemory>
-    ensures { Puts result to.old.items to.new.items (rows.hello_row.spelling (name.now, (role, address.now))) }
-{
-    put_name(to, name)?;
-    put_role(to, role)?;
-    put_text(to, address)
-}
-
-#[tactic(auto, using(crate::proofs::PutLaws::puts))]
-fn put_next_step(to: &mut Vec<u8>, at: SimTime, duration: u64) -> Result<(), WantOfMemory>
-    ensures { Puts result to.old.items to.new.items (rows.next_step_row.spelling (at, duration)) }
-{
-    put_time(to, at)?;
-    put_step_size(to, duration)
 }
 
 #[tactic(auto, using(crate::proofs::PutLaws::puts))]
@@ -383,12 +130,91 @@ fn put_service_add(to: &mut Vec<u8>, service: &Service) -> Result<(), WantOfMemo
     put_labels(to, labels)
 }
 
+impl<'a> Cursor<'a> {
+    #[tactic(auto, unfolding(crate::specs::Grammar::services_end_at))]
+    fn services_end(&self) -> Result<Content, ReadError>
+        ensures { Gives (λ content. content) result (grammar.services_end_at self.now) }
+    {
+        self.end(Content::ServicesEnd)
+    }
+
+    #[tactic(auto, unfolding(crate::specs::Grammar::status_at))]
+    fn status(&mut self) -> Result<Content, ReadError>
+        ensures { Gives (λ content. content) result (grammar.status_at self.old) }
+    {
+        let state = self.state()?;
+        let until = self.time()?;
+        self.end(Content::Status { state, until })
+    }
+}
+
 #[tactic(auto, using(crate::proofs::PutLaws::puts))]
 fn put_status(to: &mut Vec<u8>, state: State, until: SimTime) -> Result<(), WantOfMemory>
     ensures { Puts result to.old.items to.new.items (rows.status_row.spelling (state, until)) }
 {
     put_state(to, state)?;
     put_time(to, until)
+}
+
+// The one field of a Workflow is written by `put_required_names`.
+impl<'a> Cursor<'a> {
+    #[tactic(auto, unfolding(crate::specs::Grammar::workflow_at))]
+    fn workflow(&mut self, alloc: Global) -> Result<Content, ReadError>
+        ensures { Gives (λ content. content) result (grammar.workflow_at self.old) }
+    {
+        let required = self.required_names(alloc)?;
+        self.end(Content::Workflow { required })
+    }
+
+    #[tactic(auto, unfolding(crate::specs::Grammar::abort_at))]
+    fn abort(&self) -> Result<Content, ReadError>
+        ensures { Gives (λ content. content) result (grammar.abort_at self.now) }
+    {
+        self.end(Content::Abort)
+    }
+
+    /// The bytes of a CAN frame, where the frame is judged.
+    fn can_bytes(
+        &mut self,
+        alloc: Global,
+        id: u32,
+        extended: bool,
+        fd: bool,
+    ) -> Result<Bytes, ReadError>
+        ensures { Gives (λ bytes. (bytes, self.new)) result ((rows.can_bytes id (rows.flags extended fd)).at self.old) }
+    {
+        let left = self.left();
+        let bytes = self.payload(alloc)?;
+        if is_can_frame(id, extended, fd, bytes.as_slice()) {
+            Ok(bytes)
+        } else {
+            Err(bad_field(left))
+        }
+    }
+
+    #[tactic(auto, unfolding(crate::specs::Grammar::can_at))]
+    fn can(&mut self, alloc: Global) -> Result<Content, ReadError>
+        ensures { Gives (λ content. content) result (grammar.can_at self.old) }
+    {
+        let service = self.any32()?;
+        let stamp = self.time()?;
+        let mark = self.mark()?;
+        let id = self.any32()?;
+        let (extended, fd) = self.can_flags()?;
+        let payload = self.can_bytes(alloc, id, extended, fd)?;
+        let frame = CanFrame {
+            id,
+            extended,
+            fd,
+            payload,
+        };
+        self.end(Content::Can {
+            service,
+            stamp,
+            mark,
+            frame,
+        })
+    }
 }
 
 #[tactic(auto, using(crate::proofs::PutLaws::puts))]
@@ -406,7 +232,39 @@ fn put_can(
     put_mark(to, mark)?;
     put_any32(to, frame.id)?;
     put_can_flags(to, frame.extended, frame.fd)?;
-    put_payload(to, &frame.data)
+    put_payload(to, &frame.payload)
+}
+
+impl<'a> Cursor<'a> {
+    /// The bytes of an Ethernet frame.
+    #[tactic(auto, unfolding(crate::specs::Kinds::eth_bytes))]
+    fn eth_bytes(&mut self, alloc: Global) -> Result<Bytes, ReadError>
+        ensures { Gives (λ bytes. (bytes, self.new)) result (rows.eth_bytes.at self.old) }
+    {
+        let left = self.left();
+        let bytes = self.payload(alloc)?;
+        if is_eth_frame(bytes.as_slice()) {
+            Ok(bytes)
+        } else {
+            Err(bad_field(left))
+        }
+    }
+
+    #[tactic(auto, unfolding(crate::specs::Grammar::eth_at))]
+    fn eth(&mut self, alloc: Global) -> Result<Content, ReadError>
+        ensures { Gives (λ content. content) result (grammar.eth_at self.old) }
+    {
+        let service = self.any32()?;
+        let stamp = self.time()?;
+        let mark = self.mark()?;
+        let payload = self.eth_bytes(alloc)?;
+        self.end(Content::Eth {
+            service,
+            stamp,
+            mark,
+            payload,
+        })
+    }
 }
 
 #[tactic(auto, using(crate::proofs::PutLaws::puts), unfolding(crate::specs::Kinds::eth_bytes))]
@@ -415,14 +273,59 @@ fn put_eth(
     service: u32,
     stamp: SimTime,
     mark: u64,
-    data: &Bytes,
+    payload: &Bytes,
 ) -> Result<(), WantOfMemory>
-    ensures { Puts result to.old.items to.new.items (rows.eth_row.spelling (service, (stamp, (mark, «data».now)))) }
+    ensures { Puts result to.old.items to.new.items (rows.eth_row.spelling (service, (stamp, (mark, payload.now)))) }
 {
     put_any32(to, service)?;
     put_time(to, stamp)?;
     put_mark(to, mark)?;
-    put_payload(to, data)
+    put_payload(to, payload)
+}
+
+impl<'a> Cursor<'a> {
+    /// The bytes of a LIN frame or response, where its checksum and they are judged.
+    fn lin_bytes(
+        &mut self,
+        alloc: Global,
+        carries: bool,
+        checksum: LinChecksum,
+    ) -> Result<Bytes, ReadError>
+        ensures { Gives (λ bytes. (bytes, self.new)) result ((rows.lin_bytes carries checksum).at self.old) }
+    {
+        let left = self.left();
+        let bytes = self.payload(alloc)?;
+        if is_lin_payload(carries, checksum, bytes.as_slice()) {
+            Ok(bytes)
+        } else {
+            Err(bad_field(left))
+        }
+    }
+
+    #[tactic(auto, unfolding(crate::specs::Grammar::lin_at))]
+    fn lin(&mut self, alloc: Global) -> Result<Content, ReadError>
+        ensures { Gives (λ content. content) result (grammar.lin_at self.old) }
+    {
+        let service = self.any32()?;
+        let stamp = self.time()?;
+        let mark = self.mark()?;
+        let id = self.lin_id()?;
+        let checksum = self.lin_checksum()?;
+        let status = self.lin_status()?;
+        let payload = self.lin_bytes(alloc, is_received(status), checksum)?;
+        let frame = LinFrame {
+            id,
+            checksum,
+            status,
+            payload,
+        };
+        self.end(Content::Lin {
+            service,
+            stamp,
+            mark,
+            frame,
+        })
+    }
 }
 
 #[tactic(auto, using(crate::proofs::PutLaws::puts))]
@@ -441,7 +344,34 @@ fn put_lin(
     put_lin_id(to, frame.id)?;
     put_lin_checksum(to, frame.checksum)?;
     put_lin_status(to, frame.status)?;
-    put_payload(to, &frame.data)
+    put_payload(to, &frame.payload)
+}
+
+impl<'a> Cursor<'a> {
+    #[tactic(auto, unfolding(crate::specs::Grammar::lin_response_at))]
+    fn lin_response(&mut self, alloc: Global) -> Result<Content, ReadError>
+        ensures { Gives (λ content. content) result (grammar.lin_response_at self.old) }
+    {
+        let service = self.any32()?;
+        let stamp = self.time()?;
+        let mark = self.mark()?;
+        let id = self.lin_id()?;
+        let mode = self.lin_mode()?;
+        let checksum = self.lin_checksum()?;
+        let payload = self.lin_bytes(alloc, is_sent(mode), checksum)?;
+        let response = LinResponse {
+            id,
+            mode,
+            checksum,
+            payload,
+        };
+        self.end(Content::LinResponse {
+            service,
+            stamp,
+            mark,
+            response,
+        })
+    }
 }
 
 #[tactic(auto, using(crate::proofs::PutLaws::puts))]
@@ -460,7 +390,25 @@ fn put_lin_response(
     put_lin_id(to, response.id)?;
     put_lin_mode(to, response.mode)?;
     put_lin_checksum(to, response.checksum)?;
-    put_payload(to, &response.data)
+    put_payload(to, &response.payload)
+}
+
+impl<'a> Cursor<'a> {
+    #[tactic(auto, unfolding(crate::specs::Grammar::publish_at))]
+    fn publish(&mut self, alloc: Global) -> Result<Content, ReadError>
+        ensures { Gives (λ content. content) result (grammar.publish_at self.old) }
+    {
+        let service = self.any32()?;
+        let stamp = self.time()?;
+        let mark = self.mark()?;
+        let payload = self.payload(alloc)?;
+        self.end(Content::Publish {
+            service,
+            stamp,
+            mark,
+            payload,
+        })
+    }
 }
 
 #[tactic(auto, using(crate::proofs::PutLaws::puts))]
@@ -469,14 +417,34 @@ fn put_publish(
     service: u32,
     stamp: SimTime,
     mark: u64,
-    data: &Bytes,
+    payload: &Bytes,
 ) -> Result<(), WantOfMemory>
-    ensures { Puts result to.old.items to.new.items (rows.publish_row.spelling (service, (stamp, (mark, «data».now)))) }
+    ensures { Puts result to.old.items to.new.items (rows.publish_row.spelling (service, (stamp, (mark, payload.now)))) }
 {
     put_any32(to, service)?;
     put_time(to, stamp)?;
     put_mark(to, mark)?;
-    put_payload(to, data)
+    put_payload(to, payload)
+}
+
+impl<'a> Cursor<'a> {
+    #[tactic(auto, unfolding(crate::specs::Grammar::call_at))]
+    fn call_message(&mut self, alloc: Global) -> Result<Content, ReadError>
+        ensures { Gives (λ content. content) result (grammar.call_at self.old) }
+    {
+        let service = self.any32()?;
+        let stamp = self.time()?;
+        let mark = self.mark()?;
+        let call = self.call()?;
+        let payload = self.payload(alloc)?;
+        self.end(Content::Call {
+            service,
+            stamp,
+            mark,
+            call,
+            payload,
+        })
+    }
 }
 
 #[tactic(auto, using(crate::proofs::PutLaws::puts))]
@@ -486,15 +454,37 @@ fn put_call_message(
     stamp: SimTime,
     mark: u64,
     call: u64,
-    data: &Bytes,
+    payload: &Bytes,
 ) -> Result<(), WantOfMemory>
-    ensures { Puts result to.old.items to.new.items (rows.call_row.spelling (service, (stamp, (mark, (call, «data».now))))) }
+    ensures { Puts result to.old.items to.new.items (rows.call_row.spelling (service, (stamp, (mark, (call, payload.now))))) }
 {
     put_any32(to, service)?;
     put_time(to, stamp)?;
     put_mark(to, mark)?;
     put_call(to, call)?;
-    put_payload(to, data)
+    put_payload(to, payload)
+}
+
+impl<'a> Cursor<'a> {
+    #[tactic(auto, unfolding(crate::specs::Grammar::reply_at))]
+    fn reply(&mut self, alloc: Global) -> Result<Content, ReadError>
+        ensures { Gives (λ content. content) result (grammar.reply_at self.old) }
+    {
+        let service = self.any32()?;
+        let stamp = self.time()?;
+        let mark = self.mark()?;
+        let client = self.any32()?;
+        let call = self.call()?;
+        let payload = self.payload(alloc)?;
+        self.end(Content::Reply {
+            service,
+            stamp,
+            mark,
+            client,
+            call,
+            payload,
+        })
+    }
 }
 
 #[tactic(auto, using(crate::proofs::PutLaws::puts))]
@@ -505,19 +495,30 @@ fn put_reply(
     mark: u64,
     client: u32,
     call: u64,
-    data: &Bytes,
+    payload: &Bytes,
 ) -> Result<(), WantOfMemory>
-    ensures { Puts result to.old.items to.new.items (rows.reply_row.spelling (service, (stamp, (mark, (client, (call, «data».now)))))) }
+    ensures { Puts result to.old.items to.new.items (rows.reply_row.spelling (service, (stamp, (mark, (client, (call, payload.now)))))) }
 {
     put_any32(to, service)?;
     put_time(to, stamp)?;
     put_mark(to, mark)?;
     put_any32(to, client)?;
     put_call(to, call)?;
-    put_payload(to, data)
+    put_payload(to, payload)
 }
 
-/// The fields of a kind.
+// The one field of a Refuse is written by `put_reason`.
+impl<'a> Cursor<'a> {
+    #[tactic(auto, unfolding(crate::specs::Grammar::refuse_at))]
+    fn refuse(&mut self) -> Result<Content, ReadError>
+        ensures { Gives (λ content. content) result (grammar.refuse_at self.old) }
+    {
+        let reason = self.reason()?;
+        self.end(Content::Refuse { reason })
+    }
+}
+
+/// Reads the fields of a kind.
 #[tactic(auto, unfolding(crate::specs::Grammar::fields_at))]
 fn read_fields(alloc: Global, kind: u8, bytes: &[u8]) -> Result<Content, ReadError>
     ensures { Gives (λ content. content) result (grammar.fields_at kind bytes.now) }
@@ -547,6 +548,7 @@ fn read_fields(alloc: Global, kind: u8, bytes: &[u8]) -> Result<Content, ReadErr
     }
 }
 
+/// Writes the fields of a kind.
 #[tactic(auto, using(crate::proofs::PutLaws::required_few), unfolding(crate::specs::Grammar::fields))]
 fn put_fields(to: &mut Vec<u8>, content: &Content) -> Result<(), WantOfMemory>
     requires { IsTrue (is_message content.now) }
@@ -575,8 +577,8 @@ fn put_fields(to: &mut Vec<u8>, content: &Content) -> Result<(), WantOfMemory>
             service,
             stamp,
             mark,
-            data,
-        } => put_eth(to, *service, *stamp, *mark, data),
+            payload,
+        } => put_eth(to, *service, *stamp, *mark, payload),
         Content::Lin {
             service,
             stamp,
@@ -593,27 +595,28 @@ fn put_fields(to: &mut Vec<u8>, content: &Content) -> Result<(), WantOfMemory>
             service,
             stamp,
             mark,
-            data,
-        } => put_publish(to, *service, *stamp, *mark, data),
+            payload,
+        } => put_publish(to, *service, *stamp, *mark, payload),
         Content::Call {
             service,
             stamp,
             mark,
             call,
-            data,
-        } => put_call_message(to, *service, *stamp, *mark, *call, data),
+            payload,
+        } => put_call_message(to, *service, *stamp, *mark, *call, payload),
         Content::Reply {
             service,
             stamp,
             mark,
             client,
             call,
-            data,
-        } => put_reply(to, *service, *stamp, *mark, *client, *call, data),
+            payload,
+        } => put_reply(to, *service, *stamp, *mark, *client, *call, payload),
         Content::Refuse { reason } => put_reason(to, *reason),
     }
 }
 
+/// The number of a kind, 1 to 16.
 #[tactic(auto, unfolding(crate::specs::Grammar::kind_of))]
 fn kind_of(content: &Content) -> u8
     ensures { result ≡ grammar.kind_of content.now }

@@ -1,6 +1,6 @@
 //! Laws of the format: functions that do nothing, whose contracts are the laws.
 
-ghost use Rattle.std.specs.Prelude.{◌≡◌, ℕ, ◌++◌, List, [], ◌↔◌, Some, Err};
+ghost use Rattle.std.specs.Prelude.{◌≡◌, ℕ, ◌++◌, List, [], ◌↔◌, Err};
 ghost use Rattle.sk_msg.specs.declared.content.Content.{Content};
 ghost use Rattle.sk_wire.specs.declared.fault.WireFault.{WireFault};
 ghost use Rattle.sk_wire.specs.declared.fault.BodyFault.{BodyFault};
@@ -10,7 +10,8 @@ ghost use Rattle.sk_wire.specs.Stream.{AreBytes, Parts, Reads};
 ghost use Rattle.sk_wire.specs.Parts.{front, parts, Broken};
 ghost use Rattle.sk_wire.specs.Cutting.{after_pieces, joined};
 
-/// Each message has one spelling, no two messages share one, and none is a proper prefix of another.
+/// Each message has one spelling, no two messages share one, and none is a proper prefix of
+/// another.
 pub fn one_spelling()
     ensures { (m n : Content) (x y r s : List ℕ) → Spells m x → Spells n y → x ++ r ≡ y ++ s → (m ≡ n) × (x ≡ y) }
 {}

@@ -1,6 +1,6 @@
-//! Lists: a count of one byte and so many items, read and written.
+//! Lists: a count of one byte and so many items, each read and beside it written.
 
-ghost use Rattle.std.specs.Prelude.{◌≡◌, ◌≤◌, List, [], length, IfOk, IsTrue};
+ghost use Rattle.std.specs.Prelude.{◌≤◌, [], length, IfOk, IsTrue};
 ghost use Rattle.std.specs.List.{flat_map};
 ghost use Rattle.sk_msg.specs.Each.{each_after};
 ghost use Rattle.sk_msg.specs.Specs.{is_newly_keyed, are_labels};
@@ -48,6 +48,7 @@ impl<'a> Cursor<'a> {
         Ok(labels)
     }
 
+    /// The labels of a service: at most 16, of distinct keys.
     #[tactic(auto, using(crate::proofs::PutLaws::in_range), unfolding(crate::specs::Kinds::labels))]
     pub fn labels(&mut self, alloc: Global) -> Result<Vec<Label>, ReadError>
         ensures read { Gives (λ labels. (labels.items, self.new)) result (kinds.labels.at self.old) }
@@ -60,7 +61,40 @@ impl<'a> Cursor<'a> {
         }
         self.new_labels(alloc, count)
     }
+}
 
+/// Appends a label: its key, its value and its kind.
+#[tactic(auto, using(crate::proofs::PutLaws::puts))]
+fn put_label(to: &mut Vec<u8>, label: &Label) -> Result<(), WantOfMemory>
+    ensures { Puts result to.old.items to.new.items ((kinds.new_label []).spelling label.now) }
+{
+    put_name(to, &label.key)?;
+    put_text(to, &label.value)?;
+    put_label_kind(to, label.kind)
+}
+
+/// Appends labels one behind another, without their count.
+#[tactic(auto, using(crate::proofs::PutLaws::puts))]
+fn put_each_label(to: &mut Vec<u8>, labels: &[Label]) -> Result<(), WantOfMemory>
+    ensures { Puts result to.old.items to.new.items (flat_map (kinds.new_label []).spelling labels.now) }
+{
+    for label in labels {
+        put_label(to, label)?;
+    }
+    Ok(())
+}
+
+/// Appends the labels of a service, at most 16, behind their count.
+#[tactic(auto, using(crate::proofs::PutLaws::puts), unfolding(crate::specs::Kinds::labels))]
+pub fn put_labels(to: &mut Vec<u8>, labels: &[Label]) -> Result<(), WantOfMemory>
+    requires { length labels.now ≤ 16 }
+    ensures { Puts result to.old.items to.new.items (kinds.labels.spelling labels.now) }
+{
+    put_u8(to, labels.len() as u8)?;
+    put_each_label(to, labels)
+}
+
+impl<'a> Cursor<'a> {
     /// A name that stands among none of these.
     fn new_name(&mut self, alloc: Global, names: &[Name]) -> Result<Name, ReadError>
         ensures { Gives (λ name. (name, self.new)) result ((kinds.new_name names.now).at self.old) }
@@ -86,6 +120,7 @@ impl<'a> Cursor<'a> {
         Ok(names)
     }
 
+    /// The required names of a workflow: 1 to 32, distinct.
     #[tactic(auto, unfolding(crate::specs::Kinds::required_names))]
     pub fn required_names(&mut self, alloc: Global) -> Result<Names, ReadError>
         ensures { Gives (λ names. (names, self.new)) result (kinds.required_names.at self.old) }
@@ -100,34 +135,7 @@ impl<'a> Cursor<'a> {
     }
 }
 
-#[tactic(auto, using(crate::proofs::PutLaws::puts))]
-fn put_label(to: &mut Vec<u8>, label: &Label) -> Result<(), WantOfMemory>
-    ensures { Puts result to.old.items to.new.items ((kinds.new_label []).spelling label.now) }
-{
-    put_name(to, &label.key)?;
-    put_text(to, &label.value)?;
-    put_label_kind(to, label.kind)
-}
-
-#[tactic(auto, using(crate::proofs::PutLaws::puts))]
-fn put_each_label(to: &mut Vec<u8>, labels: &[Label]) -> Result<(), WantOfMemory>
-    ensures { Puts result to.old.items to.new.items (flat_map (kinds.new_label []).spelling labels.now) }
-{
-    for label in labels {
-        put_label(to, label)?;
-    }
-    Ok(())
-}
-
-#[tactic(auto, using(crate::proofs::PutLaws::puts), unfolding(crate::specs::Kinds::labels))]
-pub fn put_labels(to: &mut Vec<u8>, labels: &[Label]) -> Result<(), WantOfMemory>
-    requires { length labels.now ≤ 16 }
-    ensures { Puts result to.old.items to.new.items (kinds.labels.spelling labels.now) }
-{
-    put_u8(to, labels.len() as u8)?;
-    put_each_label(to, labels)
-}
-
+/// Appends names one behind another, without their count.
 #[tactic(auto, using(crate::proofs::PutLaws::puts))]
 fn put_names(to: &mut Vec<u8>, names: &[Name]) -> Result<(), WantOfMemory>
     ensures { Puts result to.old.items to.new.items (flat_map kinds.name.spelling names.now) }
@@ -138,6 +146,7 @@ fn put_names(to: &mut Vec<u8>, names: &[Name]) -> Result<(), WantOfMemory>
     Ok(())
 }
 
+/// Appends the required names of a workflow, at most 32, behind their count.
 #[tactic(auto, using(crate::proofs::PutLaws::puts), unfolding(crate::specs::Kinds::required_names))]
 pub fn put_required_names(to: &mut Vec<u8>, names: &Names) -> Result<(), WantOfMemory>
     requires { length names.now ≤ 32 }

@@ -1,6 +1,7 @@
-//! Numbers and counted bytes: what all fields are made of, read from a body and written to a buffer.
+//! Numbers and counted bytes: what all fields are made of, read from a body and written to a
+//! buffer.
 
-ghost use Rattle.std.specs.Prelude.{◌≡◌, ◌++◌, ◌^◌, ◌<◌, length};
+ghost use Rattle.std.specs.Prelude.{◌≡◌, ◌^◌, ◌<◌, length};
 ghost use Rattle.std.specs.Int.{w8, w16, w32, w64, to_le_bytes};
 ghost use Rattle.sk_wire.specs.Reading.{Gives};
 ghost use Rattle.sk_wire.specs.Fields.{number_at, counted_at, spelled_counted};
@@ -45,6 +46,7 @@ pub fn bad_field(left: usize) -> ReadError
 }
 
 impl<'a> Cursor<'a> {
+    /// A cursor at the front of these bytes.
     pub fn new(bytes: &'a [u8]) -> Cursor<'a>
         ensures { result ≡ bytes.entry.now }
     {
@@ -58,6 +60,7 @@ impl<'a> Cursor<'a> {
         self.rest.len()
     }
 
+    /// A number of one byte.
     pub fn u8(&mut self) -> Result<u8, ReadError>
         ensures { Gives (λ n. (n, self.new)) result (number_at w8 self.old) }
     {
@@ -70,6 +73,7 @@ impl<'a> Cursor<'a> {
         }
     }
 
+    /// A number of two bytes, little-endian.
     pub fn u16(&mut self) -> Result<u16, ReadError>
         ensures { Gives (λ n. (n, self.new)) result (number_at w16 self.old) }
     {
@@ -81,6 +85,7 @@ impl<'a> Cursor<'a> {
         Ok(u16::from_le_bytes([front[0], front[1]]))
     }
 
+    /// A number of four bytes, little-endian.
     pub fn u32(&mut self) -> Result<u32, ReadError>
         ensures { Gives (λ n. (n, self.new)) result (number_at w32 self.old) }
     {
@@ -92,6 +97,7 @@ impl<'a> Cursor<'a> {
         Ok(u32::from_le_bytes([front[0], front[1], front[2], front[3]]))
     }
 
+    /// A number of eight bytes, little-endian.
     pub fn u64(&mut self) -> Result<u64, ReadError>
         ensures { Gives (λ n. (n, self.new)) result (number_at w64 self.old) }
     {
@@ -105,7 +111,7 @@ impl<'a> Cursor<'a> {
         ]))
     }
 
-    /// A length of one byte, and so many bytes.
+    /// A length of one byte, and so many bytes, 0 to 255.
     pub fn short_bytes(&mut self) -> Result<&'a [u8], ReadError>
         ensures { Gives (λ bytes. (bytes.now, self.new)) result (counted_at w8 self.old) }
     {
@@ -119,7 +125,7 @@ impl<'a> Cursor<'a> {
         Ok(front)
     }
 
-    /// A length of two bytes, and so many bytes.
+    /// A length of two bytes, and so many bytes, 0 to 65,535.
     pub fn long_bytes(&mut self) -> Result<&'a [u8], ReadError>
         ensures { Gives (λ bytes. (bytes.now, self.new)) result (counted_at w16 self.old) }
     {
@@ -134,6 +140,7 @@ impl<'a> Cursor<'a> {
     }
 }
 
+/// Appends a number of one byte.
 pub fn put_u8(to: &mut Vec<u8>, n: u8) -> Result<(), WantOfMemory>
     ensures { Puts result to.old.items to.new.items (to_le_bytes w8 n) }
 {
@@ -141,6 +148,7 @@ pub fn put_u8(to: &mut Vec<u8>, n: u8) -> Result<(), WantOfMemory>
     Ok(())
 }
 
+/// Appends a number of two bytes, little-endian.
 pub fn put_u16(to: &mut Vec<u8>, n: u16) -> Result<(), WantOfMemory>
     ensures { Puts result to.old.items to.new.items (to_le_bytes w16 n) }
 {
@@ -148,6 +156,7 @@ pub fn put_u16(to: &mut Vec<u8>, n: u16) -> Result<(), WantOfMemory>
     Ok(())
 }
 
+/// Appends a number of four bytes, little-endian.
 pub fn put_u32(to: &mut Vec<u8>, n: u32) -> Result<(), WantOfMemory>
     ensures { Puts result to.old.items to.new.items (to_le_bytes w32 n) }
 {
@@ -155,6 +164,7 @@ pub fn put_u32(to: &mut Vec<u8>, n: u32) -> Result<(), WantOfMemory>
     Ok(())
 }
 
+/// Appends a number of eight bytes, little-endian.
 pub fn put_u64(to: &mut Vec<u8>, n: u64) -> Result<(), WantOfMemory>
     ensures { Puts result to.old.items to.new.items (to_le_bytes w64 n) }
 {
@@ -162,7 +172,7 @@ pub fn put_u64(to: &mut Vec<u8>, n: u64) -> Result<(), WantOfMemory>
     Ok(())
 }
 
-/// A length of one byte, and so many bytes.
+/// Appends a length of one byte, and so many bytes, 0 to 255.
 pub fn put_short_bytes(to: &mut Vec<u8>, bytes: &[u8]) -> Result<(), WantOfMemory>
     requires { length bytes.now < 2 ^ 8 }
     ensures { Puts result to.old.items to.new.items (spelled_counted w8 bytes.now) }
@@ -172,7 +182,7 @@ pub fn put_short_bytes(to: &mut Vec<u8>, bytes: &[u8]) -> Result<(), WantOfMemor
     Ok(())
 }
 
-/// A length of two bytes, and so many bytes.
+/// Appends a length of two bytes, and so many bytes, 0 to 65,535.
 pub fn put_long_bytes(to: &mut Vec<u8>, bytes: &[u8]) -> Result<(), WantOfMemory>
     requires { length bytes.now < 2 ^ 16 }
     ensures { Puts result to.old.items to.new.items (spelled_counted w16 bytes.now) }

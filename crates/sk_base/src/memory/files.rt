@@ -4,9 +4,10 @@ ghost use Rattle.std.specs.Prelude.{◌≡◌, ◌≤◌, ℕ, List, length, tak
 ghost use Rattle.std.specs.Option.{ForSome};
 ghost use Rattle.sk_base.specs.Memory.{has_path, content_of, path_at, content_at};
 
+use crate::count::one_more;
 use crate::fault::Failed;
 use crate::files::{Files, Opened};
-use crate::memory::fails::{CallKind, FailAt, is_failing, one_more};
+use crate::memory::fails::{CallKind, FailAt, is_failing};
 
 /// A file in memory.
 #[derive(Debug, Drop)]

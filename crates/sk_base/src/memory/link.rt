@@ -1,12 +1,13 @@
 //! A link in memory, which plays a script and tells its talk.
 
-ghost use Rattle.std.specs.Prelude.{◌≡◌, ◌<◌, ◌≤◌, ◌+◌, ◌++◌, true, List, [], ◌∷◌, length, take, IfOk, OnOk, OnErr};
+ghost use Rattle.std.specs.Prelude.{◌≡◌, ◌<◌, ◌≤◌, ◌+◌, ◌++◌, true, [], ◌∷◌, length, take, IfOk, OnOk, OnErr};
 ghost use Rattle.sk_base.specs.Talk.{said_by_take, said_by_give, TakesWithin, GivesWithin, given as given_in};
 ghost use Rattle.sk_base.specs.Memory.{talk_of};
 
+use crate::count::one_more;
 use crate::fault::Failed;
 use crate::link::{Gave, Link, Took};
-use crate::memory::fails::{CallKind, FailAt, is_failing, one_more};
+use crate::memory::fails::{CallKind, FailAt, is_failing};
 use std::alloc::{AllocError, Global};
 
 /// What the peer has for a take.
@@ -59,7 +60,7 @@ pub struct MemLink {
 /// Adds one answer to what is kept.
 fn keep(log: &mut Vec<Kept>, answer: Kept) -> Result<(), AllocError>
     ensures ok { OnOk result (log.new.items ≡ log.old.items ++ answer ∷ []) }
-    ensures err { OnErr result (log.new.items ≡ log.old.items) }
+    ensures same { OnErr result (log.new.items ≡ log.old.items) }
 {
     log.push(answer)?;
     Ok(())
@@ -124,7 +125,7 @@ impl MemLink {
         ensures within { IfOk result (TakesWithin (length buf.old)) }
         ensures faults { self.new.faults ≡ self.old.faults }
         ensures ok { IfOk result (λ took. talk_of self.new.log.items ≡ talk_of self.old.log.items ++ said_by_take took buf.new ∷ []) }
-        ensures err { OnErr result (talk_of self.new.log.items ≡ talk_of self.old.log.items) }
+        ensures same { OnErr result (talk_of self.new.log.items ≡ talk_of self.old.log.items) }
     {
         match self.takes.as_slice().get(self.take_at) {
             None => {
@@ -170,7 +171,7 @@ impl MemLink {
         ensures within { IfOk result (GivesWithin (length piece.now)) }
         ensures faults { self.new.faults ≡ self.old.faults }
         ensures ok { IfOk result (λ gave. talk_of self.new.log.items ≡ talk_of self.old.log.items ++ said_by_give gave piece.now ∷ []) }
-        ensures err { OnErr result (talk_of self.new.log.items ≡ talk_of self.old.log.items) }
+        ensures same { OnErr result (talk_of self.new.log.items ≡ talk_of self.old.log.items) }
     {
         let room = match self.gives.as_slice().get(self.give_at) {
             None => piece.len(),

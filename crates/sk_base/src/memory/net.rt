@@ -2,9 +2,9 @@
 
 ghost use Rattle.std.specs.Prelude.{◌≡◌, ℕ, true, false, []};
 
+use crate::count::one_more;
 use crate::fault::Failed;
 use crate::link::{Gave, Link, Took};
-use crate::memory::fails::one_more;
 use crate::memory::link::MemLink;
 use crate::net::Net;
 use crate::text::Text;

@@ -2,8 +2,9 @@
 
 ghost use Rattle.std.specs.Prelude.{◌≡◌, true, []};
 
+use crate::count::one_more;
 use crate::fault::Failed;
-use crate::memory::fails::{CallKind, FailAt, is_failing, one_more};
+use crate::memory::fails::{CallKind, FailAt, is_failing};
 use crate::sink::Sink;
 use std::alloc::Global;
 

@@ -147,8 +147,8 @@ const ALL: Known = Known {
     step_open: false,
 };
 
-/// All but one: 0 stands for the hellos, 1 for the services, 2 for the ready handler, 3 for the limit and
-/// 4 for an open step. Nothing is missing at 5, which stands for those that are required.
+/// All but one: 0 stands for the hellos, 1 for the services, 2 for the ready handler, 3 for the
+/// limit and 4 for an open step. Nothing is missing at 5, which stands for those that are required.
 fn all_but(missing: usize) -> Known {
     Known {
         hellos: missing != 0,

@@ -1,7 +1,6 @@
 use Rattle.std.proofs.Common.{◌≡◌, arith, sym, Some, None}
 use Rattle.std.specs.Prelude.{position}
 use Rattle.sk_base.specs.Ranges.{is_control}
-use Rattle.sk_base.specs.declared.fault.NameFault.TheVariants.{TooLong, Control}
 use Rattle.sk_base.proofs.TextLaws.{is_text_from, text_fault-none, text_fault-control, text_fault-long, no_text}
 use Rattle.sk_base.proofs.text.first_fault.Goals as goal
 

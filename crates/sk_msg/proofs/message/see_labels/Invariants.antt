@@ -1,6 +1,5 @@
 use Rattle.std.proofs.Common.{take}
-use Rattle.std.specs.Prelude.{All, IsTrue}
-use Rattle.sk_base.specs.Ranges.{is_name}
+use Rattle.std.specs.Prelude.{All}
 use Rattle.sk_msg.specs.Rules.{IsNamed}
 use Rattle.sk_msg.proofs.message.see_labels.Given as goal
 

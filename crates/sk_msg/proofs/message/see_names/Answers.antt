@@ -3,7 +3,6 @@ use Rattle.std.specs.Prelude.{IsTrue}
 use Rattle.std.proofs.lemmas.Grind.{common_steps}
 use Rattle.std.proofs.lemmas.List.Elements.{All-more, All-same}
 use Rattle.sk_base.specs.Ranges.{is_name}
-use Rattle.sk_msg.specs.Rules.{IsNamed}
 use Rattle.sk_msg.proofs.message.see_names.Goals as goal
 
 abbrev IsName : List ℕ → Type 0

@@ -1,7 +1,6 @@
 use Rattle.std.proofs.Common.{take}
 use Rattle.std.specs.Prelude.{All, IsTrue}
 use Rattle.sk_base.specs.Ranges.{is_name}
-use Rattle.sk_msg.specs.Rules.{IsNamed}
 use Rattle.sk_msg.proofs.message.see_names.Given as goal
 
 abbrev pub invariant-loop-name : goal.invariant-loop-name

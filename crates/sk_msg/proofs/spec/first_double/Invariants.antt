@@ -1,4 +1,4 @@
-use Rattle.std.proofs.Common.{◌≡◌, ◌≤◌, length, take, drop, []}
+use Rattle.std.proofs.Common.{◌≡◌, take, drop, []}
 use Rattle.sk_msg.specs.Specs.{double_key}
 use Rattle.sk_msg.proofs.spec.first_double.Given as goal
 

@@ -3,12 +3,12 @@ use Rattle.sk_wire.specs.Faults.{announced}
 use Rattle.sk_wire.proofs.FrontLaws.{open_known, head_bound, body_bound_of, open_below}
 use Rattle.sk_wire.proofs.decoder.fill.Goals as goal
 
-pub returns-then-announced-lt2-clause-all : goal.returns-then-announced-lt2-clause-all
-returns-then-announced-lt2-clause-all c = λ o.
+pub returns-then-announced-lt-SHORTEST_BODY-clause-all : goal.returns-then-announced-lt-SHORTEST_BODY-clause-all
+returns-then-announced-lt-SHORTEST_BODY-clause-all c = λ o.
     let ann : c.announced_in-announced.result ≡ announced c.fill_to.new.buffer.items = c.announced_in-announced.ensures ∙ ap announced c.deref.ensures.value in
     elim (open_known c.fill_to.new.buffer.items o) [
       | inl lt ↦ absurd (omega arith)
-      | inr a ↦ absurd (omega (arith, a.0.least, a.0.most, c.then-announced-lt2.either))
+      | inr a ↦ absurd (omega (arith, a.0.least, a.0.most, c.then-announced-lt-SHORTEST_BODY.either))
     ]
 
 pub returns-clause-most : goal.returns-clause-most

@@ -1,8 +1,7 @@
-use Rattle.std.proofs.Common.{◌≡◌, ◌+◌, ◌-◌, ◌++◌, ◌∷◌, [], None, Some, List, length, take, ap, subst, ◌∙◌, sym, arith}
+use Rattle.std.proofs.Common.{◌≡◌, ◌+◌, ◌-◌, ◌++◌, ◌∷◌, [], None, Some, List, length, take, ap, ◌∙◌, sym, arith}
 use Rattle.std.proofs.lemmas.List.{length-append, length-take}
 use Rattle.std.proofs.lemmas.Result.{IfOk-weaker}
 use Rattle.sk_msg.specs.declared.content.Content.{Content}
-use Rattle.sk_wire.specs.Stream.{Parts}
 use Rattle.sk_wire.specs.Parts.{Open, Whole, Broken, front, and_before, parts}
 use Rattle.sk_wire.specs.Seen.{seen, following}
 use Rattle.sk_wire.specs.Fed.{fed_parts}

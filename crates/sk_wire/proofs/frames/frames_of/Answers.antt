@@ -1,4 +1,4 @@
-use Rattle.std.proofs.Common.{◌≡◌, ◌+◌, ◌-◌, ◌++◌, ◌∷◌, [], length, List, ap, sym, ◌∙◌, arith}
+use Rattle.std.proofs.Common.{◌≡◌, ◌+◌, ◌-◌, length, List, ap, sym, ◌∙◌, arith}
 use Rattle.sk_msg.specs.declared.content.Content.{Content}
 use Rattle.sk_wire.specs.Parts.{Open, Whole, Broken, front, parts}
 use Rattle.sk_wire.specs.Seen.{seen, following}

@@ -1,4 +1,4 @@
-use Rattle.std.proofs.Common.{◌≡◌, ◌<◌, length, List, ℕ, Err, Ok, sym, ap, subst, ◌∙◌, arith}
+use Rattle.std.proofs.Common.{◌≡◌, ℕ, Err, sym, ap, subst, ◌∙◌, arith}
 use Rattle.sk_msg.specs.declared.content.Content.{Content}
 use Rattle.sk_wire.specs.Grammar.{body_at}
 use Rattle.sk_wire.specs.Reading.{Fails}

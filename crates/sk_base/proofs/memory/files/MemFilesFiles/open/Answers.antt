@@ -1,4 +1,4 @@
-use Rattle.std.proofs.Common.{rules, arith, ◌≡◌, ◌∙◌, ap, refl, ℕ, List, IsSome, position}
+use Rattle.std.proofs.Common.{rules, arith, ◌∙◌, ap, refl, IsSome, position}
 use Rattle.sk_base.specs.Memory.{has_path}
 use Rattle.sk_base.proofs.FileLaws.{IsPlace, ready_file, own_file, lost_file}
 use Rattle.sk_base.proofs.memory.files.MemFilesFiles.open.Goals as goal

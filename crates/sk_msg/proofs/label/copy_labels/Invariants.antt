@@ -1,5 +1,5 @@
 use Rattle.std.proofs.Common.{◌≡◌, take}
-use Rattle.sk_msg.proofs.spec.copy_labels.Given as goal
+use Rattle.sk_msg.proofs.label.copy_labels.Given as goal
 
 abbrev pub invariant-loop-label : goal.invariant-loop-label
 invariant-loop-label l = l.copies.items ≡ take l.label-index l.labels

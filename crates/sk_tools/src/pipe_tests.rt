@@ -1,5 +1,6 @@
 use crate::silkit_pipe;
-use sk_base::memory::{CallKind, FailAt, MemFiles, MemGive, MemLink, MemTake};
+use crate::testing::{fails_of, words_of};
+use sk_base::memory::{CallKind, MemFiles, MemGive, MemLink, MemTake};
 use std::alloc::{AllocError, Global};
 use std::process::Abort;
 use std::test::Fail;
@@ -47,14 +48,6 @@ const AHEAD: [&[u8]; 4] = [HELLO_B, AT_0, AT_5, LEAVE];
 
 /// What is then given: 104 bytes.
 const ALL: [&[u8]; 6] = [HELLO_A, AT_0, AT_1, AT_2, AT_3, LEAVE];
-
-fn words_of(alloc: Global, texts: &[&str]) -> Result<Vec<String>, AllocError> {
-    let mut words = Vec::new(alloc);
-    for text in texts {
-        words.push(String::from_str(alloc, text)?)?;
-    }
-    Ok(words)
-}
 
 fn joined(alloc: Global, frames: &[&[u8]]) -> Result<Vec<u8>, AllocError> {
     let mut bytes = Vec::new(alloc);
@@ -202,12 +195,7 @@ fn each_call_fails_once(rt: HostRuntime) -> Result<(), Fail> {
         (CallKind::Give, 3, 4),
         (CallKind::Give, 4, 0),
     ] {
-        let mut fails = Vec::new(alloc);
-        fails.push(FailAt {
-            call,
-            link: 0,
-            number,
-        })?;
+        let fails = fails_of(alloc, call, number)?;
         let takes = one_piece(alloc, &AHEAD)?;
         let mut link = MemLink::new(alloc, takes, Vec::new(alloc), fails);
         assert_eq!(rt; run(alloc, &WORDS, &mut link)?, status);
@@ -228,12 +216,7 @@ fn failing_calls(rt: HostRuntime) -> Result<(), Fail> {
         (CallKind::Take, 2),
         (CallKind::Take, 0),
     ] {
-        let mut fails = Vec::new(alloc);
-        fails.push(FailAt {
-            call,
-            link: 0,
-            number,
-        })?;
+        let fails = fails_of(alloc, call, number)?;
         let takes = single_bytes(alloc, &AHEAD, false)?;
         let mut link = MemLink::new(alloc, takes, Vec::new(alloc), fails);
         assert_eq!(rt; run(alloc, &WORDS, &mut link)?, 4);

@@ -2,7 +2,7 @@ use Rattle.std.proofs.Common.{◌≡◌, ◌∙◌, refl, ap, true}
 use Rattle.clap.specs.Words.{is_simple_and_free}
 use Rattle.clap.proofs.OnLiterals.{clap_on_literals}
 use Rattle.sk_tools.specs.Words.{pipe_app}
-use Rattle.sk_tools.proofs.pipe_words.read_plan.Goals as goal
+use Rattle.sk_tools.proofs.pipe_words.read_pipe.Goals as goal
 
 is_simple : is_simple_and_free pipe_app ≡ true
 unfolding pipe_app clap_on_literals
