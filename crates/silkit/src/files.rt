@@ -1,12 +1,9 @@
 //! The files of the host.
 
-ghost use Rattle.std.specs.Prelude.{◌≡◌};
-ghost use Rattle.sk_base.specs.Talk.{Rose};
-
+use crate::faults::Faults;
 use crate::tries::MOST_TRIES;
-use log::{Log, warn};
-use sk_base::{Failed, Files, Opened, one_more};
-use std::fmt::Display;
+use log::Log;
+use sk_base::{Failed, Files, Opened};
 use std::fs::File;
 use std::io::{ErrorKind, Read};
 
@@ -15,8 +12,7 @@ use std::io::{ErrorKind, Read};
 pub struct OsFiles<'a, R: std::fs::Files, L: Log + Drop> {
     rt: &'a R,
     opened: Option<R::File>,
-    log: L,
-    faults: u64,
+    faults: Faults<L>,
 }
 
 impl<'a, R: std::fs::Files, L: Log + Drop> OsFiles<'a, R, L> {
@@ -25,26 +21,15 @@ impl<'a, R: std::fs::Files, L: Log + Drop> OsFiles<'a, R, L> {
         OsFiles {
             rt,
             opened: None,
-            log,
-            faults: 0,
+            faults: Faults::none(log),
         }
-    }
-
-    /// Counts a fault, and notes of what and why.
-    fn fail(&mut self, what: &str, why: impl Display + Drop) -> Failed
-        ensures rose { Rose self.old.faults self.new.faults }
-        ensures opened { self.new.opened ≡ self.old.opened }
-    {
-        warn!(self.log; "{what}: {why}");
-        self.faults = one_more(self.faults);
-        Failed
     }
 }
 
 impl<R: std::fs::Files, L: Log + Drop> Files for OsFiles<'_, R, L> {
     ghost use Rattle.std.specs.Prelude.{is_some};
 
-    ghost faults = { λ files. files.faults };
+    ghost faults = { λ files. files.faults.count };
 
     ghost is_ready = { λ files. is_some files.opened };
 
@@ -59,25 +44,25 @@ impl<R: std::fs::Files, L: Log + Drop> Files for OsFiles<'_, R, L> {
                 if error.kind() == ErrorKind::NotFound {
                     return Ok(Opened::Absent);
                 }
-                Err(self.fail(path, error))
+                Err(self.faults.note(path, error))
             }
         }
     }
 
     fn read(&mut self, buf: &mut [u8]) -> Result<usize, Failed> {
         let Some(file) = &mut self.opened else {
-            return Err(self.fail("read", "no file is open"));
+            return Err(self.faults.note("read", "no file is open"));
         };
         for _ in 0..MOST_TRIES {
             match file.read(buf) {
                 Ok(count) => return Ok(count),
                 Err(error) => {
                     if error.kind() != ErrorKind::Interrupted {
-                        return Err(self.fail("read", error));
+                        return Err(self.faults.note("read", error));
                     }
                 }
             }
         }
-        Err(self.fail("read", "interrupted"))
+        Err(self.faults.note("read", "interrupted"))
     }
 }

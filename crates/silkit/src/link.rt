@@ -1,11 +1,9 @@
 //! Standard input and output as one link.
 
-ghost use Rattle.sk_base.specs.Talk.{Rose};
-
+use crate::faults::Faults;
 use crate::tries::MOST_TRIES;
-use log::{Log, warn};
-use sk_base::{Failed, Gave, Link, Took, one_more};
-use std::fmt::Display;
+use log::Log;
+use sk_base::{Failed, Gave, Link, Took};
 use std::io::{ErrorKind, Read, Stdin, Stdout, Write};
 
 /// Takes from standard input and gives to standard output. It never answers NotYet, and tells
@@ -14,8 +12,7 @@ use std::io::{ErrorKind, Read, Stdin, Stdout, Write};
 pub struct StdLink<L: Log + Drop> {
     input: Stdin,
     output: Stdout,
-    log: L,
-    faults: u64,
+    faults: Faults<L>,
 }
 
 impl<L: Log + Drop> StdLink<L> {
@@ -24,23 +21,13 @@ impl<L: Log + Drop> StdLink<L> {
         StdLink {
             input,
             output,
-            log,
-            faults: 0,
+            faults: Faults::none(log),
         }
-    }
-
-    /// Counts a fault, and notes of what and why.
-    fn fail(&mut self, what: &str, why: impl Display + Drop) -> Failed
-        ensures { Rose self.old.faults self.new.faults }
-    {
-        warn!(self.log; "{what}: {why}");
-        self.faults = one_more(self.faults);
-        Failed
     }
 }
 
 impl<L: Log + Drop> Link for StdLink<L> {
-    ghost faults = { λ link. link.faults };
+    ghost faults = { λ link. link.faults.count };
 
     fn take(&mut self, buf: &mut [u8]) -> Result<Took, Failed> {
         for _ in 0..MOST_TRIES {
@@ -49,26 +36,26 @@ impl<L: Log + Drop> Link for StdLink<L> {
                 Ok(count) => return Ok(Took::Bytes(count)),
                 Err(error) => {
                     if error.kind() != ErrorKind::Interrupted {
-                        return Err(self.fail("standard input", error));
+                        return Err(self.faults.note("standard input", error));
                     }
                 }
             }
         }
-        Err(self.fail("standard input", "interrupted"))
+        Err(self.faults.note("standard input", "interrupted"))
     }
 
     fn give(&mut self, piece: &[u8]) -> Result<Gave, Failed> {
         for _ in 0..MOST_TRIES {
             match self.output.write(piece) {
-                Ok(0) => return Err(self.fail("standard output", "no byte was written")),
+                Ok(0) => return Err(self.faults.note("standard output", "no byte was written")),
                 Ok(count) => return Ok(Gave::Bytes(count)),
                 Err(error) => {
                     if error.kind() != ErrorKind::Interrupted {
-                        return Err(self.fail("standard output", error));
+                        return Err(self.faults.note("standard output", error));
                     }
                 }
             }
         }
-        Err(self.fail("standard output", "interrupted"))
+        Err(self.faults.note("standard output", "interrupted"))
     }
 }

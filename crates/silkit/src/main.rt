@@ -4,6 +4,7 @@
 //! the shipped program has switched off.
 #![tactic(auto)]
 
+mod faults;
 mod files;
 mod idle;
 mod link;
