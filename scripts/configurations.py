@@ -1,6 +1,6 @@
 #!/usr/bin/env python3
-"""Runs the proved program `silkit check` on a table of configurations, one case per key and rule, and
-the program on words that have no reading.
+"""Runs the proved program `silkit check` on a table of configurations, one case per key and rule, on
+files and outputs of the host that fail, and the program on words with and without a reading.
 
 usage: configurations.py
 
@@ -12,6 +12,7 @@ import os
 import subprocess
 import sys
 import tempfile
+import time
 
 TOP = os.path.dirname(os.path.dirname(os.path.abspath(__file__)))
 PROGRAM = os.path.join(TOP, "crates", "silkit", "out", "silkit")
@@ -128,13 +129,106 @@ def sound():
 # Words without a reading, with what is said of them. Where the first is `pipe`, nothing is.
 WORDS = [
     ([], "silkit: usage\n"),
+    (["--help"], "silkit: usage\n"),
     (["Check", "a.json"], "silkit: usage\n"),
     ([b"\xff"], "silkit: usage\n"),
     (["check", b"a\xff.json"], "silkit: usage\n"),
     (["pipe", b"\xff", "1", "1"], ""),
-    (["pipe", "A", "0", "1"], ""),
+    (["Pipe", "A", "1", "5"], "silkit: usage\n"),
+    (["pipe"], ""),
     (["pipe", "--help"], ""),
+    (["pipe", "--version"], ""),
+    (["pipe", "A", "1"], ""),
+    (["pipe", "A", "1", "5", "6"], ""),
+    (["pipe", "A", "1", "5", "--help"], ""),
+    (["pipe", "A", "1", "5", "--fast"], ""),
+    (["pipe", "", "1", "5"], ""),
+    (["pipe", "-A", "1", "5"], ""),
+    (["pipe", LONG, "1", "5"], ""),
+    (["pipe", "a\nb", "1", "5"], ""),
+    (["pipe", "A", "0", "5"], ""),
+    (["pipe", "A", str(2**60 + 1), "5"], ""),
+    (["pipe", "A", "1", str(2**61 + 1)], ""),
+    (["pipe", "A", "+1", "5"], ""),
+    (["pipe", "A", "1", ""], ""),
+    (["pipe", "A", "1", "-5"], ""),
+    (["pipe", "A", "1", "9" * 26], ""),
 ]
+# Words that have a reading though they look odd: leading zeros, `--`, a name that is a hyphen or
+# begins with one behind `--`. The input ends at once, so the status is 11.
+ODD_WORDS = [
+    ["pipe", "A", "01", "00"],
+    ["pipe", "--", "A", "1", "0"],
+    ["pipe", "A", "1", "--", "0"],
+    ["pipe", "A", "1", "0", "--"],
+    ["pipe", "-", "1", "0"],
+    ["pipe", "--", "-A", "1", "0"],
+]
+
+
+def outside(room):
+    """Runs on files that aren't there or can't be read, and on an output that can't be written: the
+    words, where the output goes, the status and what is said."""
+    absent = os.path.join(room, "absent.json")
+    inside = os.path.join(os.devnull, "a.json")
+    fine = os.path.join(room, "fine.json")
+    with open(fine, "w") as file:
+        file.write('{"Logging":{}}')
+    yield absent, None, 1, f"silkit: {absent}: no such file\n"
+    yield room, None, 3, f"silkit: read fault: {room}\n"
+    yield inside, None, 3, f"silkit: read fault: {inside}\n"
+    yield fine, "/dev/full", 4, "warning: /Logging: not used\nsilkit: write fault\n"
+
+
+def run_outside(room):
+    """The first of those runs that isn't as wanted, or None."""
+    for file, output, status, said in outside(room):
+        if output is not None and not os.path.exists(output):
+            continue
+        with open(output or os.devnull, "wb") as target:
+            run = subprocess.run([PROGRAM, "check", file], stdout=target, stderr=subprocess.PIPE)
+        got = (run.returncode, run.stderr.decode())
+        if got != (status, said):
+            return f"file {file!r}\nwanted {(status, said)}\ngot    {got}"
+    return None
+
+
+def read_slowly(room):
+    """An output longer than a pipe's buffer, read in pieces with pauses."""
+    path = os.path.join(room, "long.json")
+    lists = {key: [{"Name": f"{i:02}" + "n" * 62, target: "t" * 64} for i in range(64)] for key, target in LISTS}
+    with open(path, "w") as file:
+        json.dump(lists, file)
+    wanted = json.dumps(
+        {key: [dict(sorted(entry.items())) for entry in entries] for key, entries in sorted(lists.items())},
+        separators=(",", ":"),
+    )
+    run = subprocess.Popen([PROGRAM, "check", path], stdout=subprocess.PIPE, stderr=subprocess.PIPE)
+    got = b""
+    while piece := os.read(run.stdout.fileno(), 5000):
+        got += piece
+        time.sleep(0.01)
+    said = run.stderr.read()
+    if (run.wait(), got.decode(), said) != (0, wanted + "\n", b""):
+        return f"{len(wanted)} bytes read slowly: got {len(got)}, status {run.returncode}, {said!r}"
+    return None if len(wanted) > 65536 else "the long output isn't longer than a pipe's buffer"
+
+
+def run_together(room):
+    """Two runs on one standard error at once: their lines don't mix."""
+    path = os.path.join(room, "keys.json")
+    with open(path, "w") as file:
+        json.dump({f"key{i:04}": 0 for i in range(3000)}, file)
+    reader, writer = os.pipe()
+    runs = [subprocess.Popen([PROGRAM, "check", path], stdout=subprocess.DEVNULL, stderr=writer) for _ in range(2)]
+    os.close(writer)
+    with os.fdopen(reader, "rb") as stream:
+        lines = stream.read().decode().splitlines()
+    wanted = sorted(2 * [f"warning: /key{i:04}: not used" for i in range(3000)])
+    if [run.wait() for run in runs] != [0, 0] or sorted(lines) != wanted:
+        mixed = sum(1 for line in lines if line not in set(wanted))
+        return f"two runs on one standard error: {len(lines)} lines, {mixed} of them mixed"
+    return None
 
 
 def as_bytes(value):
@@ -158,13 +252,18 @@ def main():
             if got != (status, output, said):
                 print(f"configuration {content!r}\nwanted {(status, output, said)}\ngot    {got}")
                 return 1
-    for words, said in WORDS:
+        for fault in (run_outside(room), read_slowly(room), run_together(room)):
+            if fault is not None:
+                print(fault)
+                return 1
+    rows = [(words, 2, said) for words, said in WORDS] + [(words, 11, "") for words in ODD_WORDS]
+    for words, status, said in rows:
         run = subprocess.run([PROGRAM, *words], capture_output=True, stdin=subprocess.DEVNULL)
-        got = (run.returncode, run.stdout.decode(), run.stderr.decode())
-        if got != (2, "", said):
-            print(f"words {words!r}\nwanted {(2, '', said)}\ngot    {got}")
+        got = (run.returncode, run.stderr.decode())
+        if got != (status, said) or (status == 2 and run.stdout):
+            print(f"words {words!r}\nwanted {(status, said)}\ngot    {got}")
             return 1
-    print(f"{len(wanted)} configurations, {len(WORDS)} rows of words: as the format says")
+    print(f"{len(wanted)} configurations, files and outputs that fail, {len(rows)} rows of words: as the format says")
     return 0
 
 

@@ -1,7 +1,8 @@
 //! The program `silkit`: the outside, handed to the one call that does all the rest.
 //!
-//! The adapters here are the trusted edge. They note each fault of the real thing by `log`, which
-//! the shipped program has switched off.
+//! The adapters here carry just the bytes of what they stand on, wherever that tells them; what is
+//! trusted is what the host's own streams and files do. They note each fault of the real thing by
+//! `log`, which the shipped program has switched off.
 #![tactic(auto)]
 
 mod faults;
@@ -31,7 +32,7 @@ fn main(rt: HostRuntime) -> ExitCode {
                 // A fault on standard error changes no status.
                 let _ = rt.stderr().write_all(fault.line().as_bytes());
             }
-            return ExitCode::from(fault.status());
+            return ExitCode::from(fault.status().number());
         }
     };
     let mut host = Host {

@@ -1,10 +1,11 @@
 use crate::files::OsFiles;
+use crate::link::StdLink;
 use crate::sink::StdSink;
 use crate::words::{NoWords, is_pipe, read_words};
 use log::sink::Memory;
-use sk_base::{Failed, Files, Opened, Sink};
+use sk_base::{ExitStatus, Failed, Files, Gave, Link, Opened, Sink, Took};
 use std::env::{Env, FillError};
-use std::io::{ErrorKind, Write};
+use std::io::{ErrorKind, Read, Write};
 use std::process::Abort;
 use std::test::Fail;
 
@@ -29,6 +30,19 @@ fn files_of_the_host(rt: HostRuntime) -> Result<(), Fail> {
     Ok(())
 }
 
+/// Only a file that isn't there is absent. A path through a file can't be opened, which is a fault,
+/// and leads to no file that can be read.
+#[test]
+fn a_path_through_a_file(rt: HostRuntime) -> Result<(), Fail> {
+    let lines = Memory::new(rt.alloc());
+    let mut files = OsFiles::new(&rt, &lines);
+    assert!(rt; files.open("/dev/null/a.json") == Err(Failed));
+    assert!(rt; files.open("/nowhere.json") == Ok(Opened::Absent));
+    drop(files);
+    assert_eq!(rt; lines.into_lines().len(), 1);
+    Ok(())
+}
+
 #[test]
 fn a_sink_on_a_buffer(rt: HostRuntime) -> Result<(), Fail> {
     let lines = Memory::new(rt.alloc());
@@ -44,7 +58,7 @@ fn a_sink_on_a_buffer(rt: HostRuntime) -> Result<(), Fail> {
     Ok(())
 }
 
-/// Takes no byte, and is interrupted at each flush.
+/// Takes no byte, and is interrupted at each flush and read.
 #[derive(Drop)]
 struct Stuck;
 
@@ -58,6 +72,12 @@ impl Write for Stuck {
     }
 }
 
+impl Read for Stuck {
+    fn read(&mut self, _buf: &mut [u8]) -> std::io::Result<usize> {
+        Err(ErrorKind::Interrupted.into())
+    }
+}
+
 /// Each fault is noted, also where the host reports no error.
 #[test]
 fn a_stuck_sink(rt: HostRuntime) -> Result<(), Fail> {
@@ -67,6 +87,60 @@ fn a_stuck_sink(rt: HostRuntime) -> Result<(), Fail> {
     assert!(rt; sink.flush() == Err(Failed));
     drop(sink);
     assert_eq!(rt; lines.into_lines().len(), 2);
+    Ok(())
+}
+
+#[test]
+fn a_stuck_link(rt: HostRuntime) -> Result<(), Fail> {
+    let lines = Memory::new(rt.alloc());
+    let mut link = StdLink::new(Stuck, Stuck, &lines);
+    let mut buf = [0u8; 2];
+    assert!(rt; link.take(&mut buf) == Err(Failed));
+    assert!(rt; link.give(b"abc") == Err(Failed));
+    drop(link);
+    assert_eq!(rt; lines.into_lines().len(), 2);
+    Ok(())
+}
+
+/// Writes two bytes at a time to a buffer.
+#[derive(Drop)]
+struct Twos<'a> {
+    bytes: &'a mut Vec<u8>,
+}
+
+impl Write for Twos<'_> {
+    fn write(&mut self, buf: &[u8]) -> std::io::Result<usize> {
+        let count = buf.len().min(2);
+        self.bytes.write_all(&buf[..count])?;
+        Ok(count)
+    }
+
+    fn flush(&mut self) -> std::io::Result<()> {
+        Ok(())
+    }
+}
+
+/// A link answers what the streams took and gave, and no more.
+#[test]
+fn a_link_in_parts(rt: HostRuntime) -> Result<(), Fail> {
+    let lines = Memory::new(rt.alloc());
+    let mut bytes: Vec<u8> = Vec::new(rt.alloc());
+    let output = Twos { bytes: &mut bytes };
+    let mut link = StdLink::new(b"abc".as_slice(), output, &lines);
+    let mut buf = [0u8; 2];
+    for (answer, front) in [
+        (Ok(Took::Bytes(2)), b"ab".as_slice()),
+        (Ok(Took::Bytes(1)), b"c"),
+        (Ok(Took::End), b""),
+        (Ok(Took::End), b""),
+    ] {
+        assert!(rt; link.take(&mut buf) == answer);
+        assert!(rt; buf.starts_with(front));
+    }
+    assert!(rt; link.give(b"xyz") == Ok(Gave::Bytes(2)));
+    assert!(rt; link.give(b"z") == Ok(Gave::Bytes(1)));
+    drop(link);
+    assert_eq!(rt; bytes.as_slice(), b"xyz".as_slice());
     Ok(())
 }
 
@@ -129,7 +203,7 @@ fn words_that_are_not_utf8(rt: HostRuntime) -> Result<(), Fail> {
             return Err(Fail::new("no refusal"));
         };
         assert!(rt; fault == NoWords::NotUtf8);
-        assert_eq!(rt; fault.status(), 2);
+        assert!(rt; fault.status() == ExitStatus::Usage);
         assert_eq!(rt; fault.line(), "silkit: usage\n");
         assert!(rt; is_pipe(&line) == is_silent);
     }

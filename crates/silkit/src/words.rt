@@ -1,6 +1,7 @@
 //! The words of the command line.
 
-use sk_tools::{OUT_OF_MEMORY, OUT_OF_MEMORY_LINE, USAGE, USAGE_LINE};
+use sk_base::ExitStatus;
+use sk_tools::{OUT_OF_MEMORY_LINE, USAGE_LINE};
 use std::env::{self, Env};
 use std::io::ErrorKind;
 
@@ -15,10 +16,10 @@ pub enum NoWords {
 
 impl NoWords {
     /// The status that the program ends with.
-    pub fn status(self) -> u8 {
+    pub fn status(self) -> ExitStatus {
         match self {
-            NoWords::NotUtf8 => USAGE,
-            NoWords::WantOfMemory => OUT_OF_MEMORY,
+            NoWords::NotUtf8 => ExitStatus::Usage,
+            NoWords::WantOfMemory => ExitStatus::OutOfMemory,
         }
     }
 

@@ -4,3 +4,4 @@ pub mod Calls
 pub mod Reading
 pub mod Memory
 pub mod MemoryNet
+pub mod Statuses

@@ -6,6 +6,7 @@ use Rattle.sk_base.specs.declared.link.Took.TheVariants as took
 use Rattle.sk_base.specs.declared.link.Gave.{Gave}
 use Rattle.sk_base.specs.declared.link.Gave.TheVariants as gave
 
+-- one answer of a call on a link
 pub data Said : Type 0 where
   -- a take answered with these bytes
   Taken : List ℕ → Said
@@ -33,15 +34,18 @@ said_by_give gave.NotYet piece = NoneGiven
 abbrev pub IsCountOf : ℕ → ℕ → Type 0
 IsCountOf room count = (1 ≤ count) × (count ≤ room)
 
+-- a take gave no more than its buffer holds
 abbrev pub TakesWithin : ℕ → Took → Type 0
 TakesWithin room (took.Bytes count) = IsCountOf room count
 TakesWithin room took.NotYet = Unit {0}
 TakesWithin room took.End = Unit {0}
 
+-- a give let no more through than its piece
 abbrev pub GivesWithin : ℕ → Gave → Type 0
 GivesWithin room (gave.Bytes count) = IsCountOf room count
 GivesWithin room gave.NotYet = Unit {0}
 
+-- the bytes that one answer took
 abbrev pub bytes_taken : Said → List ℕ
 bytes_taken (Taken bytes) = bytes
 bytes_taken (Given bytes) = []
@@ -49,6 +53,7 @@ bytes_taken NoneTaken = []
 bytes_taken NoneGiven = []
 bytes_taken Ended = []
 
+-- the bytes that one answer let through
 abbrev pub bytes_given : Said → List ℕ
 bytes_given (Taken bytes) = []
 bytes_given (Given bytes) = bytes
@@ -56,10 +61,11 @@ bytes_given NoneTaken = []
 bytes_given NoneGiven = []
 bytes_given Ended = []
 
--- all bytes taken, and all bytes given
+-- all bytes taken
 abbrev pub taken : List Said → List ℕ
 taken talk = flat_map bytes_taken talk
 
+-- all bytes given
 abbrev pub given : List Said → List ℕ
 given talk = flat_map bytes_given talk
 

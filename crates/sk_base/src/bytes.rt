@@ -8,19 +8,26 @@ use crate::fault::{BytesFault, WantOfMemory};
 use crate::limits::LONGEST_PAYLOAD;
 use std::alloc::Global;
 use std::marker::Model;
+use std::sync::ArcSlice;
 
 /// At most 4,096 bytes. Contracts see them.
+///
+/// Copies share one block, which goes with the last of them, and may lie with several threads.
 #[derive(Debug, Drop)]
 pub struct Bytes {
-    bytes: Vec<u8>,
+    bytes: ArcSlice<u8>,
 }
 
 impl Model for Bytes {
+    ghost use Rattle.std.specs.Prelude.{List, ℕ, IsTrue};
+    ghost use Rattle.std.specs.Arc.{arc_slice_items};
+    ghost use Rattle.sk_base.specs.Ranges.{is_payload};
+
     ghost Value = { List ℕ };
 
-    ghost view = { λ b. b.bytes.items };
+    ghost view = { λ b. arc_slice_items b.bytes };
 
-    ghost invariant = { λ b. IsTrue (is_payload b.bytes.items) };
+    ghost invariant = { λ b. IsTrue (is_payload (arc_slice_items b.bytes)) };
 }
 
 impl Bytes {
@@ -36,16 +43,17 @@ impl Bytes {
             return Err(BytesFault::TooLong(payload.len()));
         }
         Ok(Bytes {
-            bytes: Vec::from_slice(alloc, payload)?,
+            bytes: ArcSlice::from_slice(alloc, payload)?,
         })
     }
 
-    /// The same bytes again.
-    pub fn copy(&self, alloc: Global) -> Result<Bytes, WantOfMemory>
+    /// The same bytes again, in constant time. It asks for no memory; it answers want of memory
+    /// only where a `u64` can't count the copies.
+    pub fn copy(&self, _alloc: Global) -> Result<Bytes, WantOfMemory>
         ensures { IfOk result (λ copy. copy ≡ self.now) }
     {
         Ok(Bytes {
-            bytes: Vec::from_slice(alloc, &self.bytes)?,
+            bytes: self.bytes.clone()?,
         })
     }
 

@@ -2,7 +2,7 @@
 
 ghost use Rattle.std.specs.Prelude.{◌≡◌, ◌<◌, ◌≤◌, ◌↔◌, ℕ, Bool, true, false, List, [], length, Option, None, IfOk, OnOk, OnErr, IsTrue, MatchResult};
 ghost use Rattle.sk_base.specs.Talk.{Rose};
-ghost use Rattle.sk_base.specs.Reading.{Opens, Reads};
+ghost use Rattle.sk_base.specs.Reading.{OpensFile, ReadsFile};
 ghost use Rattle.sk_base.specs.declared.files.Opened.TheVariants as opened;
 
 use crate::fault::Failed;
@@ -45,7 +45,7 @@ pub trait Files {
         ensures tells { tells self.new ≡ tells self.old }
         ensures contents { (at : List ℕ) → content self.new at ≡ content self.old at }
         ensures told { tells self.old ≡ true → MatchResult result
-            (λ answer. Opens answer (content self.old path.now) path.now (current self.new) (place self.new))
+            (λ answer. OpensFile answer (content self.old path.now) path.now (current self.new) (place self.new))
             (λ _. (current self.new ≡ current self.old) × (place self.new ≡ place self.old)) };
 
     /// Reads on in the file that was opened last, at most a buffer; 0 only at its end.
@@ -60,6 +60,6 @@ pub trait Files {
         ensures contents { (at : List ℕ) → content self.new at ≡ content self.old at }
         ensures current { current self.new ≡ current self.old }
         ensures told { tells self.old ≡ true → MatchResult result
-            (λ count. Reads count (content self.old (current self.old)) (place self.old) buf.new (place self.new))
+            (λ count. ReadsFile count (content self.old (current self.old)) (place self.old) buf.new (place self.new))
             (λ _. place self.new ≡ place self.old) };
 }

@@ -6,8 +6,12 @@
 //! count rose: code that is generic over the trait can't invent a fault. The objects in
 //! [`memory`] also tell what was said, so contracts above can speak of it.
 //!
-//! A name, a text and the bytes of a message have an allocation each, and are copied by `copy`
-//! alone. Their rules are looked at once, by their constructors, in time linear in their length.
+//! Names, texts and the bytes of a message lie in blocks that copies share, so `copy` takes constant
+//! time and no memory. Their rules are looked at once, by their constructors, in time linear in
+//! their length.
+//!
+//! All limits of the project stand in [`limits`], and all numbers that the program ends with in
+//! [`ExitStatus`].
 //!
 //! ```text
 //! let name = Name::new(alloc, "Engine")?;      // 1 to 64 bytes without control characters
@@ -22,10 +26,12 @@ mod fault;
 mod files;
 mod idle;
 pub mod limits;
+mod line;
 mod link;
 pub mod memory;
 mod net;
 mod sink;
+mod status;
 mod text;
 mod time;
 
@@ -34,8 +40,10 @@ pub use count::one_more;
 pub use fault::{BytesFault, Failed, NameFault, WantOfMemory};
 pub use files::{Files, Opened};
 pub use idle::Idle;
+pub use line::Line;
 pub use link::{Gave, Link, Took};
 pub use net::Net;
 pub use sink::Sink;
+pub use status::ExitStatus;
 pub use text::{Name, Text, is_digits};
 pub use time::SimTime;

@@ -2,7 +2,7 @@
 
 ghost use Rattle.std.specs.Prelude.{◌≡◌, ◌<◌, ◌++◌, ℕ, Bool, true, false, List, [], ◌∷◌, length, IfOk, IfErr, OnOk, OnErr, IsTrue, MatchResult};
 ghost use Rattle.sk_base.specs.Talk.{Said, said_by_take, said_by_give, TakesWithin, GivesWithin, Rose};
-ghost use Rattle.sk_base.specs.Calls.{Called, Listened, Connected, called_by_accept, Same, SameBut, Opens, OpensSome, Closes, IsBoundTo};
+ghost use Rattle.sk_base.specs.Calls.{Called, Listened, Connected, IsRefused, called_by_accept, Same, SameBut, OpensLink, OpensSome, Closes, IsBoundTo};
 
 use crate::fault::Failed;
 use crate::link::{Gave, Took};
@@ -31,7 +31,9 @@ pub trait Net {
     // Whether the calls and the talks are told. Nets of the outside leave this at its default.
     ghost tells: { Self → Bool } = { λ _. false };
 
-    // The calls of `listen`, `connect` and `accept` with their answers, in one order.
+    // The calls of `listen`, `connect` and `accept` with their answers, in one order. A `listen` or
+    // `connect` that failed stands there with its address, or not at all; an `accept` that failed
+    // names no address, and never does.
     ghost calls: { Self → List Called } = { λ _. [] };
 
     // All that was said so far on each link.
@@ -54,21 +56,21 @@ pub trait Net {
         ensures talks { tells self.old ≡ true → Same (talk self.old) (talk self.new) }
         ensures calls { tells self.old ≡ true → MatchResult result
             (λ bound. calls self.new ≡ calls self.old ++ Listened at.now bound ∷ [])
-            (λ _. calls self.new ≡ calls self.old) };
+            (λ _. IsRefused at.now (calls self.old) (calls self.new)) };
 
     /// Opens a link to the net that listens at this address, and answers its number.
     fn connect(&mut self, at: &Text) -> Result<u32, Failed>
         ensures rose { OnErr result (Rose (faults self.old) (faults self.new)) }
         ensures steady { OnOk result (faults self.new ≡ faults self.old) }
         ensures counts { Same (link_faults self.old) (link_faults self.new) }
-        ensures opens { IfOk result (Opens (is_open_of self.old) (was_opened self.old) (is_open_of self.new) (was_opened self.new)) }
+        ensures opens { IfOk result (OpensLink (is_open_of self.old) (was_opened self.old) (is_open_of self.new) (was_opened self.new)) }
         ensures none { IfErr result (λ _. Same (is_open_of self.old) (is_open_of self.new) × Same (was_opened self.old) (was_opened self.new)) }
         ensures tells { tells self.new ≡ tells self.old }
         ensures silent { tells self.old ≡ true → IfOk result (λ link. talk self.new link ≡ []) }
         ensures talks { tells self.old ≡ true → (number : ℕ) → was_opened self.old number ≡ true → talk self.new number ≡ talk self.old number }
         ensures calls { tells self.old ≡ true → MatchResult result
             (λ link. calls self.new ≡ calls self.old ++ Connected at.now link ∷ [])
-            (λ _. calls self.new ≡ calls self.old) };
+            (λ _. IsRefused at.now (calls self.old) (calls self.new)) };
 
     /// Opens a link to one that called, and answers its number; None only where nobody waited.
     fn accept(&mut self) -> Result<Option<u32>, Failed>

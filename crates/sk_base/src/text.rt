@@ -3,7 +3,8 @@
 ghost use Rattle.std.specs.Prelude.{◌≡◌, ℕ, List, length, ◌≤◌, position, ◌⊎◌, Some, None, false, IsTrue, IfOk, IfErr, OnErr, IfNone, IfSome, ◌≢◌, if◌then◌else◌};
 ghost use Rattle.std.specs.Char.{is_ascii_digit};
 ghost use Rattle.std.specs.List.{list_all};
-ghost use Rattle.std.specs.String.{string_bytes};
+ghost use Rattle.std.specs.Arc.{arc_str_bytes};
+ghost use Rattle.std.specs.Str.{bytes_eq};
 ghost use Rattle.sk_base.specs.declared.fault.NameFault.{NameFault};
 ghost use Rattle.sk_base.specs.Ranges.{is_control, is_text, is_name, text_fault, name_fault};
 
@@ -11,21 +12,23 @@ use crate::fault::{NameFault, WantOfMemory};
 use crate::limits::LONGEST_TEXT;
 use std::alloc::Global;
 use std::marker::Model;
+use std::sync::ArcStr;
 
 /// At most 64 bytes of UTF-8 without control characters (U+0000 to U+001F and U+007F).
 ///
-/// Contracts see its bytes.
+/// Contracts see its bytes. Copies share one block, which goes with the last of them, and may lie
+/// with several threads.
 #[derive(Debug, Drop)]
 pub struct Text {
-    text: String,
+    text: ArcStr,
 }
 
 impl Model for Text {
     ghost Value = { List ℕ };
 
-    ghost view = { λ t. string_bytes t.text };
+    ghost view = { λ t. arc_str_bytes t.text };
 
-    ghost invariant = { λ t. IsTrue (is_text (string_bytes t.text)) };
+    ghost invariant = { λ t. IsTrue (is_text (arc_str_bytes t.text)) };
 }
 
 /// A text that isn't empty: what participants, services and topics are called.
@@ -56,7 +59,7 @@ impl Text {
             return Err(fault);
         }
         Ok(Text {
-            text: String::from_str(alloc, text)?,
+            text: ArcStr::from_str(alloc, text)?,
         })
     }
 
@@ -76,12 +79,13 @@ impl Text {
         }
     }
 
-    /// A second text with the same bytes.
-    pub fn copy(&self, alloc: Global) -> Result<Text, WantOfMemory>
+    /// The same text again, in constant time. It asks for no memory; it answers want of memory
+    /// only where a `u64` can't count the copies.
+    pub fn copy(&self, _alloc: Global) -> Result<Text, WantOfMemory>
         ensures { IfOk result (λ copy. copy ≡ self.now) }
     {
         Ok(Text {
-            text: String::from_str(alloc, self.text.as_str())?,
+            text: self.text.clone()?,
         })
     }
 
@@ -128,13 +132,20 @@ impl Name {
         }
     }
 
-    /// A second name with the same bytes.
+    /// The same name again, as [`Text::copy`].
     pub fn copy(&self, alloc: Global) -> Result<Name, WantOfMemory>
         ensures { IfOk result (λ copy. copy ≡ self.now) }
     {
         Ok(Name {
             text: self.text.copy(alloc)?,
         })
+    }
+
+    /// Whether the other one has the same bytes.
+    pub fn is(&self, other: &Name) -> bool
+        ensures { result ≡ bytes_eq self.now other.now }
+    {
+        self.as_str() == other.as_str()
     }
 
     /// What it says.

@@ -2,8 +2,8 @@
 use Rattle.std.proofs.Common.{◌≡◌, ℕ, ◌≤◌, true, false, List, [], ◌∷◌, length, Option, Some, None, Ok, option_map, option_and_then, unwrap_or, refl, sym, arith}
 use Rattle.std.specs.Prelude.{IsTrue}
 use Rattle.std.specs.Str.{IsUtf8}
-use Rattle.std.proofs.lemmas.Bool.{and_parts, leb-true, le-ltb}
-use Rattle.serde_json.specs.Data.{string, Members, no_items, no_members, depth}
+use Rattle.std.proofs.lemmas.Bool.{and_parts, leb-true, le-leb}
+use Rattle.serde_json.specs.Data.{Data, string, Members, no_items, no_members, depth}
 use Rattle.serde_json.specs.Find.{get, as_str, as_array}
 use Rattle.serde_json.specs.Read.{read, max_depth}
 use Rattle.serde_json.specs.Written.{has_float}
@@ -13,13 +13,16 @@ use Rattle.sk_msg.specs.declared.service.ServiceKind.{ServiceKind}
 use Rattle.sk_msg.specs.declared.service.ServiceKind.TheVariants.{Can, Ethernet, Lin, Publisher, Subscriber, Server, Client}
 use Rattle.sk_config.specs.Configs.{ConfigValue, entries_of, is_none_or, is_address, is_next_entry, is_entry_count, are_entries, is_config}
 use Rattle.sk_config.specs.Keys.{kinds, row_of, is_list_key, knows, participant_name_key, middleware_key, registry_uri_key}
-use Rattle.sk_config.specs.Reading.{text_at, items_at, list_of, uri_of, unused_in, unused, list_unused, middleware_unused, warnings_of, string_fault, object_fault, text_fault, array_fault, list_fault, middleware_fault_at, middleware_fault, reading_at, reading}
+use Rattle.sk_config.specs.Json.{text_at, items_at, unknown_in, unknown_keys, string_fault, object_fault, text_fault, count_fault, list_fault}
+use Rattle.sk_config.specs.Faults.{config_faults}
+use Rattle.sk_config.specs.Reading.{list_of, uri_of, unused_keys, list_unused, middleware_unused, all_unused, not_used, warnings_of, entries_fault, kind_fault, middleware_fault_at, middleware_fault, reading_at, reading}
+use Rattle.sk_config.specs.Paths.{key_at}
 use Rattle.sk_config.specs.Written.{list_data, put_lists, entries_data, middleware_data, config_data}
 use Rattle.sk_config.specs.declared.config.ConfigEntry.{ConfigEntry}
 use Rattle.sk_config.specs.declared.keys.Object.TheVariants.{Root, Middleware}
 use Rattle.sk_config.proofs.EntryLaws.{count_back, entries_back, entries_unused_none, entries_fault_none, plain_entries}
 use Rattle.sk_config.proofs.FoundLaws.{or_none, found, nothing_unused, IsPlain, ArePlain, IfPlain, none_plain, plain_some}
-use Rattle.sk_config.proofs.ReadLaws.{json_of-text}
+use Rattle.sk_config.proofs.JsonLaws.{json_of-text}
 use Rattle.sk_config.proofs.WholeLaws.{ForKinds, no_fault, says_all, reading_is}
 
 -- ---- what is found at each key
@@ -57,16 +60,28 @@ items_there : (kind : ServiceKind) (es : List ConfigEntry) → unwrap_or (option
 items_there kind [] = refl
 items_there kind (e ∷ es) = refl
 
-list_fine : (kind : ServiceKind) (path : List ℕ) (es : List ConfigEntry) → are_entries kind es ≡ true → option_and_then (λ v. array_fault kind path (as_array v)) (list_data kind es) ≡ None
-list_fine kind path [] h = refl
-list_fine kind path (e ∷ es) h =
-    let rules = few kind (e ∷ es) h in
-    rw (count_back kind (e ∷ es), le-ltb 64 (length (e ∷ es)) rules.0) (entries_fault_none kind path 0 [] (e ∷ es) rules.1)
+count_fine : (kind : ServiceKind) (path : List ℕ) (es : List ConfigEntry) → length es ≤ 64
+    → option_and_then (λ v. count_fault config_faults 0 64 path (as_array v)) (list_data kind es) ≡ None
+count_fine kind path [] h = refl
+count_fine kind path (e ∷ es) h =
+    rw (count_back kind (e ∷ es), le-leb (length (e ∷ es)) 64 h, le-leb 0 (length (e ∷ es)) (omega arith)) refl
+
+list_fine : (kind : ServiceKind) (path : List ℕ) (es : List ConfigEntry) (d : Data) → get (row_of kind).list d ≡ list_data kind es → length es ≤ 64
+    → list_fault config_faults 0 64 path (row_of kind).list d ≡ None
+unfolding list_fault
+list_fine kind path es d there h = rw there (count_fine kind _ es h)
 
 module _ (path : List ℕ) (c : ConfigValue) (kind : ServiceKind) (rules : are_entries kind (entries_of c kind) ≡ true) where
-  list_fault_none : list_fault path (config_data c) kind ≡ None
-  unfolding list_fault
-  list_fault_none = rw (list_there c kind) (list_fine kind _ (entries_of c kind) rules)
+  list_fault_none : kind_fault path (config_data c) kind ≡ None
+  unfolding kind_fault items_at
+  list_fault_none =
+      let kept = few kind (entries_of c kind) rules in
+      rw (
+        list_fine kind path (entries_of c kind) (config_data c) (list_there c kind) kept.0,
+        list_there c kind,
+        items_there kind (entries_of c kind),
+        entries_fault_none kind (key_at path (row_of kind).list) 0 [] (entries_of c kind) kept.1,
+      ) refl
 
   list_back : entries_of c kind ≡ list_of kind (config_data c)
   unfolding list_of items_at
@@ -94,15 +109,15 @@ knows_uri : knows Middleware registry_uri_key ≡ true
 unfolding knows
 knows_uri = refl
 
-uri_unused : (path uri : List ℕ) → unused Middleware path (middleware_data uri) ≡ []
-unfolding unused middleware_data
+uri_unused : (path uri : List ℕ) → unused_keys Middleware path (middleware_data uri) ≡ []
+unfolding unused_keys unknown_keys middleware_data
 uri_unused path uri = nothing_unused Middleware path registry_uri_key (Some (string uri)) no_members knows_uri refl
 
-middleware_quiet : (path : List ℕ) (o : Option (List ℕ)) → unwrap_or (option_map (unused Middleware path) (option_map middleware_data o)) [] ≡ []
+middleware_quiet : (path : List ℕ) (o : Option (List ℕ)) → unwrap_or (option_map (unused_keys Middleware path) (option_map middleware_data o)) [] ≡ []
 middleware_quiet path None = refl
 middleware_quiet path (Some uri) = uri_unused path uri
 
-name_fine : (path : List ℕ) (o : Option (List ℕ)) → is_none_or is_name o ≡ true → option_and_then (λ v. string_fault is_name path (as_str v)) (option_map string o) ≡ None
+name_fine : (path : List ℕ) (o : Option (List ℕ)) → is_none_or is_name o ≡ true → option_and_then (λ v. string_fault config_faults is_name path (as_str v)) (option_map string o) ≡ None
 name_fine path None fine = refl
 name_fine path (Some name) fine = rw fine refl
 
@@ -130,22 +145,22 @@ knows_middleware : knows Root middleware_key ≡ true
 unfolding knows is_list_key
 knows_middleware = refl
 
-lists_unused : (path : List ℕ) (c : ConfigValue) (ks : List ServiceKind) (ms : Members) → unused_in Root path ms ≡ [] → unused_in Root path (put_lists c ks ms) ≡ []
+lists_unused : (path : List ℕ) (c : ConfigValue) (ks : List ServiceKind) (ms : Members) → unknown_in (knows Root) path ms ≡ [] → unknown_in (knows Root) path (put_lists c ks ms) ≡ []
 lists_unused path c [] ms none = none
 lists_unused path c (kind ∷ ks) ms none = lists_unused path c ks _ (nothing_unused Root path (row_of kind).list (list_data kind (entries_of c kind)) ms (knows_list kind) none)
 
 module _ (path : List ℕ) (c : ConfigValue) where
-  root_unused : unused Root path (config_data c) ≡ []
-  unfolding unused config_data
+  root_unused : unused_keys Root path (config_data c) ≡ []
+  unfolding unused_keys unknown_keys config_data
   root_unused =
       nothing_unused Root path middleware_key _ _ knows_middleware
       (lists_unused path c kinds _ (nothing_unused Root path participant_name_key (option_map string c.participant_name) no_members knows_name refl))
 
-  root_object : object_fault path (config_data c) ≡ None
+  root_object : object_fault config_faults path (config_data c) ≡ None
   unfolding object_fault config_data
   root_object = refl
 
-  root_name : is_none_or is_name c.participant_name ≡ true → text_fault is_name path participant_name_key (config_data c) ≡ None
+  root_name : is_none_or is_name c.participant_name ≡ true → text_fault config_faults is_name path participant_name_key (config_data c) ≡ None
   unfolding text_fault
   root_name fine = rw (name_there c) (name_fine _ c.participant_name fine)
 
@@ -185,7 +200,7 @@ kept c h =
     record { name = one.0; lists = (can.0, ethernet.0, lin.0, publishers.0, subscribers.0, servers.0, clients.0); uri = two.1 }
 
 no_warnings : (path : List ℕ) (c : ConfigValue) → IsKept c → [] ≡ warnings_of path (config_data c)
-unfolding warnings_of
+unfolding warnings_of all_unused
 no_warnings path c k =
     let list = list_unused_none path c in
     sym (rw (root_unused path c, list Can k.lists.0, list Ethernet k.lists.1, list Lin k.lists.2, list Publisher k.lists.3, list Subscriber k.lists.4, list Server k.lists.5, list Client k.lists.6, middleware_none path c) refl)

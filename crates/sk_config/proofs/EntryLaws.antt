@@ -13,7 +13,9 @@ use Rattle.sk_msg.specs.declared.service.ServiceKind.TheVariants.{Can, Ethernet,
 use Rattle.sk_config.specs.Configs.{is_new, is_none_or, is_next_entry}
 use Rattle.sk_config.specs.Keys.{row_of, knows, name_key, history_key}
 use Rattle.sk_config.specs.Paths.{index_at}
-use Rattle.sk_config.specs.Reading.{whole, name_of, history_of, entry_of, entries_in, unused_in, unused, entries_unused, string_fault, number_fault, object_fault, text_fault, missing_fault, double_fault, history_fault, entry_name_fault, entry_fault, entries_fault}
+use Rattle.sk_config.specs.Json.{whole, unknown_in, unknown_keys, string_fault, whole_fault, number_fault, object_fault, text_fault, missing_fault}
+use Rattle.sk_config.specs.Faults.{config_faults}
+use Rattle.sk_config.specs.Reading.{name_of, history_of, entry_of, entries_in, unused_keys, entries_unused, double_fault, history_fault, entry_name_fault, entry_fault, entries_fault}
 use Rattle.sk_config.specs.Written.{put_some, history_data, entry_data, entries_data}
 use Rattle.sk_config.specs.declared.config.ConfigEntry.{ConfigEntry}
 use Rattle.sk_config.specs.declared.fault.ConfigFault.{ConfigFault}
@@ -64,7 +66,7 @@ no_history true o h = refl
 no_history false None h = refl
 no_history false (Some history) h = absurd (false≢true h)
 
-history_fine : (path : List ℕ) (o : Option Bool) → option_and_then (λ v. number_fault path (whole v)) (option_map history_data o) ≡ None
+history_fine : (path : List ℕ) (o : Option Bool) → option_and_then (λ v. whole_fault config_faults 0 1 path (whole v)) (option_map history_data o) ≡ None
 history_fine path None = refl
 history_fine path (Some true) = refl
 history_fine path (Some false) = refl
@@ -73,7 +75,7 @@ cond_none : (has : Bool) (fault : Option ConfigFault) → fault ≡ None → con
 cond_none true fault none = none
 cond_none false fault none = refl
 
-text_fine : (path : List ℕ) (o : Option (List ℕ)) → is_none_or is_name o ≡ true → option_and_then (λ v. string_fault is_name path (as_str v)) (option_map string o) ≡ None
+text_fine : (path : List ℕ) (o : Option (List ℕ)) → is_none_or is_name o ≡ true → option_and_then (λ v. string_fault config_faults is_name path (as_str v)) (option_map string o) ≡ None
 text_fine path None fine = refl
 text_fine path (Some text) fine = rw fine refl
 
@@ -105,7 +107,7 @@ unfolding knows
 knows_history kind has = let a = apart kind in rw (a.history, has) refl
 
 -- history is known where it is written
-history_unused : (kind : ServiceKind) (path : List ℕ) (has : Bool) (o : Option Bool) (ms : Members) → (row_of kind).has_history ≡ has → (has || is_none o) ≡ true → unused_in (Entry kind) path ms ≡ [] → unused_in (Entry kind) path (put_some history_key (option_map history_data o) ms) ≡ []
+history_unused : (kind : ServiceKind) (path : List ℕ) (has : Bool) (o : Option Bool) (ms : Members) → (row_of kind).has_history ≡ has → (has || is_none o) ≡ true → unknown_in (knows (Entry kind)) path ms ≡ [] → unknown_in (knows (Entry kind)) path (put_some history_key (option_map history_data o) ms) ≡ []
 unfolding put_some
 history_unused kind path has None ms is h none = none
 history_unused kind path true (Some history) ms is h none = nothing_unused (Entry kind) path history_key (Some (history_data history)) ms (knows_history kind is) none
@@ -120,14 +122,14 @@ module _ (kind : ServiceKind) (path : List ℕ) (earlier : List ConfigEntry) (e 
   unfolding entry_of history_of
   entry_value = rw (entry_name, target_there kind e, history_there kind e, text_back e.target, history_back e.history, no_history (row_of kind).has_history e.history next.history) refl
 
-  entry_unused : unused (Entry kind) path (entry_data kind e) ≡ []
-  unfolding unused entry_data
+  entry_unused : unused_keys (Entry kind) path (entry_data kind e) ≡ []
+  unfolding unused_keys unknown_keys entry_data
   entry_unused =
       history_unused kind path _ e.history _ refl next.history
       (nothing_unused (Entry kind) path (row_of kind).target (option_map string e.target) _ (knows_target kind)
       (nothing_unused (Entry kind) path name_key (Some (string e.name)) no_members (knows_name kind) refl))
 
-  is_object : object_fault path (entry_data kind e) ≡ None
+  is_object : object_fault config_faults path (entry_data kind e) ≡ None
   unfolding object_fault entry_data
   is_object = refl
 
@@ -135,12 +137,12 @@ module _ (kind : ServiceKind) (path : List ℕ) (earlier : List ConfigEntry) (e 
   unfolding entry_name_fault text_fault missing_fault double_fault
   is_named = rw (name_there kind e, next.name, entry_name, next.new) refl
 
-  is_target : text_fault is_name path (row_of kind).target (entry_data kind e) ≡ None
+  is_target : text_fault config_faults is_name path (row_of kind).target (entry_data kind e) ≡ None
   unfolding text_fault
   is_target = rw (target_there kind e) (text_fine _ e.target next.target)
 
   is_history : history_fault kind path (entry_data kind e) ≡ None
-  unfolding history_fault
+  unfolding history_fault number_fault
   is_history = rw (history_there kind e) (cond_none (row_of kind).has_history _ (history_fine _ e.history))
 
   entry_fault_none : entry_fault kind path earlier (entry_data kind e) ≡ None

@@ -1,6 +1,6 @@
 -- A JSON value never has the two faults that aren't of its content.
 use Rattle.std.proofs.Common.{◌≡◌, ℕ, ◌+◌, Bool, true, false, cond, List, [], ◌∷◌, ◌++◌, Option, Some, None, Err, option_and_then, is_none, refl}
-use Rattle.std.specs.Prelude.{◌↔◌, nat_lt}
+use Rattle.std.specs.Prelude.{◌↔◌, ◌&&◌, nat_le}
 use Rattle.serde_json.specs.Data.{Data, Items, no_items, item}
 use Rattle.serde_json.specs.Events.{items_len}
 use Rattle.serde_json.specs.Find.{get, as_object, as_str, as_array}
@@ -10,7 +10,9 @@ use Rattle.sk_msg.specs.declared.service.ServiceKind.TheVariants.{Can, Ethernet,
 use Rattle.sk_config.specs.Configs.{is_new, is_address}
 use Rattle.sk_config.specs.Keys.{row_of, participant_name_key, middleware_key, name_key, history_key, registry_uri_key}
 use Rattle.sk_config.specs.Paths.{key_at, index_at}
-use Rattle.sk_config.specs.Reading.{whole, name_of, entry_of, first_of, object_fault, string_fault, text_fault, missing_fault, double_fault, number_fault, history_fault, entry_name_fault, entry_fault, entries_fault, array_fault, list_fault, middleware_fault, fault_of, reading_or, reading_at, json_of, reading_from, reading}
+use Rattle.sk_config.specs.Json.{json_of, whole, first_of, object_fault, string_fault, text_fault, missing_fault, whole_fault, number_fault, items_at, count_fault, list_fault}
+use Rattle.sk_config.specs.Faults.{config_faults}
+use Rattle.sk_config.specs.Reading.{name_of, entry_of, double_fault, history_fault, entry_name_fault, entry_fault, entries_fault, kind_fault, middleware_fault, fault_of, reading_or, reading_at, reading_from, reading}
 use Rattle.sk_config.specs.declared.config.ConfigEntry.{ConfigEntry}
 use Rattle.sk_config.specs.declared.config.ConfigRead.{ConfigRead}
 use Rattle.sk_config.specs.declared.fault.ConfigFault.{ConfigFault}
@@ -38,19 +40,19 @@ each : {A : Type 0} (f : A → Option ConfigFault) (o : Option A) → ((x : A) �
 each f None h = tt
 each f (Some x) h = h x
 
-of_object : (path : List ℕ) (d : Data) → IsOfValue (object_fault path d)
+of_object : (path : List ℕ) (d : Data) → IsOfValue (object_fault config_faults path d)
 unfolding object_fault
 of_object path d = either (is_none (as_object d)) (Some (WrongType path)) None tt tt
 
-of_string : (is_fine : List ℕ → Bool) (path : List ℕ) (o : Option (List ℕ)) → IsOfValue (string_fault is_fine path o)
+of_string : (is_fine : List ℕ → Bool) (path : List ℕ) (o : Option (List ℕ)) → IsOfValue (string_fault config_faults is_fine path o)
 of_string is_fine path None = tt
 of_string is_fine path (Some text) = either (is_fine text) None (Some (BadValue path)) tt tt
 
-of_text : (is_fine : List ℕ → Bool) (path key : List ℕ) (d : Data) → IsOfValue (text_fault is_fine path key d)
+of_text : (is_fine : List ℕ → Bool) (path key : List ℕ) (d : Data) → IsOfValue (text_fault config_faults is_fine path key d)
 unfolding text_fault
 of_text is_fine path key d = each _ (get key d) (λ v. of_string is_fine (key_at path key) (as_str v))
 
-of_missing : (path key : List ℕ) (d : Data) → IsOfValue (missing_fault path key d)
+of_missing : (path key : List ℕ) (d : Data) → IsOfValue (missing_fault config_faults path key d)
 unfolding missing_fault
 of_missing path key d = either (is_none (get key d)) (Some (Missing (key_at path key))) None tt tt
 
@@ -58,13 +60,17 @@ of_double : (path : List ℕ) (earlier : List ConfigEntry) (d : Data) → IsOfVa
 unfolding double_fault
 of_double path earlier d = either (is_new earlier (name_of d)) None (Some (Double (key_at path name_key))) tt tt
 
-of_number : (path : List ℕ) (o : Option ℕ) → IsOfValue (number_fault path o)
-of_number path None = tt
-of_number path (Some n) = either (nat_lt n 2) None (Some (BadValue path)) tt tt
+of_whole : (low high : ℕ) (path : List ℕ) (o : Option ℕ) → IsOfValue (whole_fault config_faults low high path o)
+of_whole low high path None = tt
+of_whole low high path (Some n) = either (nat_le low n && nat_le n high) None (Some (BadValue path)) tt tt
+
+of_number : (low high : ℕ) (path key : List ℕ) (d : Data) → IsOfValue (number_fault config_faults low high path key d)
+unfolding number_fault
+of_number low high path key d = each _ (get key d) (λ v. of_whole low high (key_at path key) (whole v))
 
 of_history : (kind : ServiceKind) (path : List ℕ) (d : Data) → IsOfValue (history_fault kind path d)
 unfolding history_fault
-of_history kind path d = either (row_of kind).has_history _ None (each _ (get history_key d) (λ v. of_number (key_at path history_key) (whole v))) tt
+of_history kind path d = either (row_of kind).has_history _ None (of_number 0 1 path history_key d) tt
 
 of_entry_name : (path : List ℕ) (earlier : List ConfigEntry) (d : Data) → IsOfValue (entry_name_fault path earlier d)
 unfolding entry_name_fault
@@ -78,13 +84,17 @@ of_entries : (kind : ServiceKind) (path : List ℕ) (earlier : List ConfigEntry)
 of_entries kind path earlier index no_items = tt
 of_entries kind path earlier index (item d ds) = both _ _ (of_entry kind (index_at path index) earlier d) (both _ [] (of_entries kind path (earlier ++ entry_of kind d ∷ []) (index + 1) ds) tt)
 
-of_array : (kind : ServiceKind) (path : List ℕ) (o : Option Items) → IsOfValue (array_fault kind path o)
-of_array kind path None = tt
-of_array kind path (Some ds) = either (nat_lt 64 (items_len ds)) (Some (BadValue path)) _ tt (of_entries kind path [] 0 ds)
+of_count : (least most : ℕ) (path : List ℕ) (o : Option Items) → IsOfValue (count_fault config_faults least most path o)
+of_count least most path None = tt
+of_count least most path (Some ds) = either (nat_le least (items_len ds) && nat_le (items_len ds) most) None (Some (BadValue path)) tt tt
 
-of_list : (path : List ℕ) (d : Data) (kind : ServiceKind) → IsOfValue (list_fault path d kind)
+of_items : (least most : ℕ) (path key : List ℕ) (d : Data) → IsOfValue (list_fault config_faults least most path key d)
 unfolding list_fault
-of_list path d kind = each _ (get (row_of kind).list d) (λ v. of_array kind (key_at path (row_of kind).list) (as_array v))
+of_items least most path key d = each _ (get key d) (λ v. of_count least most (key_at path key) (as_array v))
+
+of_list : (path : List ℕ) (d : Data) (kind : ServiceKind) → IsOfValue (kind_fault path d kind)
+unfolding kind_fault
+of_list path d kind = both _ _ (of_items 0 64 path (row_of kind).list d) (both _ [] (of_entries kind (key_at path (row_of kind).list) [] 0 (items_at (row_of kind).list d)) tt)
 
 of_middleware : (path : List ℕ) (d : Data) → IsOfValue (middleware_fault path d)
 unfolding middleware_fault

@@ -9,7 +9,7 @@ use Rattle.serde_json.specs.Find.{get_member}
 use Rattle.serde_json.specs.Written.{has_float, members_have_float}
 use Rattle.serde_json.proofs.Views.{get_member-put, get_member-put_other}
 use Rattle.sk_config.specs.Keys.{knows}
-use Rattle.sk_config.specs.Reading.{unused_in}
+use Rattle.sk_config.specs.Json.{unknown_in}
 use Rattle.sk_config.specs.Written.{put_some}
 use Rattle.sk_config.specs.declared.keys.Object.{Object}
 
@@ -36,17 +36,17 @@ found q k o ms = by_test (bytes_eq q k) refl o
     by_test false e (Some d) = get_member-put_other q k d ms (apart q k e)
 
 -- a known key adds no warning
-known_at : (object : Object) (path k l : List ℕ) (d e : Data) (ms : Members) (o : Ordering) → knows object k ≡ true → unused_in object path (put k d ms) ≡ unused_in object path ms
-    → unused_in object path (match_ordering o (member k d (member l e ms)) (member l d ms) (member l e (put k d ms))) ≡ unused_in object path (member l e ms)
+known_at : (object : Object) (path k l : List ℕ) (d e : Data) (ms : Members) (o : Ordering) → knows object k ≡ true → unknown_in (knows object) path (put k d ms) ≡ unknown_in (knows object) path ms
+    → unknown_in (knows object) path (match_ordering o (member k d (member l e ms)) (member l d ms) (member l e (put k d ms))) ≡ unknown_in (knows object) path (member l e ms)
 known_at object path k l d e ms Less known later = rw known refl
 known_at object path k l d e ms Equal known later = refl
 known_at object path k l d e ms Greater known later = rw later refl
 
-known_put : (object : Object) (path k : List ℕ) (d : Data) (ms : Members) → knows object k ≡ true → unused_in object path (put k d ms) ≡ unused_in object path ms
+known_put : (object : Object) (path k : List ℕ) (d : Data) (ms : Members) → knows object k ≡ true → unknown_in (knows object) path (put k d ms) ≡ unknown_in (knows object) path ms
 known_put object path k d no_members known = rw known refl
 known_put object path k d (member l e ms) known = known_at object path k l d e ms (slice_cmp nat_cmp k l) known (known_put object path k d ms known)
 
-pub nothing_unused : (object : Object) (path k : List ℕ) (o : Option Data) (ms : Members) → knows object k ≡ true → unused_in object path ms ≡ [] → unused_in object path (put_some k o ms) ≡ []
+pub nothing_unused : (object : Object) (path k : List ℕ) (o : Option Data) (ms : Members) → knows object k ≡ true → unknown_in (knows object) path ms ≡ [] → unknown_in (knows object) path (put_some k o ms) ≡ []
 unfolding put_some
 nothing_unused object path k None ms known none = none
 nothing_unused object path k (Some d) ms known none = known_put object path k d ms known ∙ none

@@ -1,5 +1,6 @@
 pub mod AddressLaws
 pub mod PathLaws
+pub mod JsonLaws
 pub mod ReadLaws
 pub mod WriteLaws
 pub mod WholeLaws

@@ -7,7 +7,9 @@ use Rattle.sk_msg.specs.declared.service.ServiceKind.{ServiceKind}
 use Rattle.sk_msg.specs.declared.service.ServiceKind.TheVariants.{Can, Ethernet, Lin, Publisher, Subscriber, Server, Client}
 use Rattle.sk_config.specs.Keys.{participant_name_key}
 use Rattle.sk_config.specs.Configs.{ConfigValue, entries_of, is_none_or, is_address, are_entries, is_config}
-use Rattle.sk_config.specs.Reading.{object_fault, text_fault, list_fault, middleware_fault, fault_of, text_at, list_of, uri_of, config_of, unused, list_unused, middleware_unused, warnings_of, reading_at}
+use Rattle.sk_config.specs.Json.{object_fault, text_fault, text_at}
+use Rattle.sk_config.specs.Faults.{config_faults}
+use Rattle.sk_config.specs.Reading.{kind_fault, middleware_fault, fault_of, list_of, uri_of, config_of, unused_keys, list_unused, middleware_unused, all_unused, warnings_of, reading_at}
 use Rattle.sk_config.specs.declared.config.ConfigEntry.{ConfigEntry}
 use Rattle.sk_config.specs.declared.keys.Object.TheVariants.{Root}
 use Rattle.sk_config.specs.declared.warning.Warning.{Warning}
@@ -23,7 +25,7 @@ are_rules config name lists uri =
     (and_from _ _ lists.0 (and_from _ _ lists.1 (and_from _ _ lists.2 (and_from _ _ lists.3 (and_from _ _ lists.4 (and_from _ _ lists.5 (and_from _ _ lists.6 refl)))))))
     uri)
 
-pub no_fault : (path : List ℕ) (d : Data) → object_fault path d ≡ None → text_fault is_name path participant_name_key d ≡ None → ForKinds (λ kind. list_fault path d kind ≡ None) → middleware_fault path d ≡ None → fault_of path d ≡ None
+pub no_fault : (path : List ℕ) (d : Data) → object_fault config_faults path d ≡ None → text_fault config_faults is_name path participant_name_key d ≡ None → ForKinds (λ kind. kind_fault path d kind ≡ None) → middleware_fault path d ≡ None → fault_of path d ≡ None
 unfolding fault_of
 no_fault path d object name lists middleware =
     rw (object, name, lists.0, lists.1, lists.2, lists.3, lists.4, lists.5, lists.6, middleware) refl
@@ -37,12 +39,12 @@ unfolding config_of
 says_all path d name can ethernet lin publishers subscribers servers clients uri named lists addressed =
     rw (named, lists.0, lists.1, lists.2, lists.3, lists.4, lists.5, lists.6, addressed) refl
 
--- warnings in the order in which they were noted
-pub in_order : (path : List ℕ) (d : Data) → let list = list_unused path d in
-    ((((((((([] ++ unused Root path d) ++ list Can) ++ list Ethernet) ++ list Lin) ++ list Publisher) ++ list Subscriber) ++ list Server) ++ list Client) ++ middleware_unused path d)
-    ≡ warnings_of path d
-unfolding warnings_of
-in_order path d = simp (append_assoc, append-nil)
+-- keys in the order in which they were noted
+pub in_order : (noted : List (List ℕ)) (path : List ℕ) (d : Data) → let list = list_unused path d in
+    (((((((((noted ++ unused_keys Root path d) ++ list Can) ++ list Ethernet) ++ list Lin) ++ list Publisher) ++ list Subscriber) ++ list Server) ++ list Client) ++ middleware_unused path d)
+    ≡ noted ++ all_unused path d
+unfolding all_unused
+in_order noted path d = simp (append_assoc, append-nil)
 
 pub reading_is : (path : List ℕ) (d : Data) (config : ConfigValue) (warnings : List Warning) → fault_of path d ≡ None → config ≡ config_of d → warnings ≡ warnings_of path d → reading_at path d ≡ Ok (record { config = config; warnings = warnings })
 unfolding reading_at

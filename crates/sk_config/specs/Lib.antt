@@ -1,9 +1,10 @@
 pub mod Rows
 pub mod Keys
 pub mod Paths
+pub mod Json
+pub mod Faults
 pub mod Warned
 pub mod Configs
 pub mod Reading
-pub mod Outcomes
 pub mod Written
 pub mod Applied

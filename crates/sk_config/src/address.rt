@@ -1,13 +1,57 @@
 //! Addresses of a registry.
 
-ghost use Rattle.std.specs.Prelude.{◌≡◌};
+ghost use Rattle.std.specs.Prelude.{◌≡◌, List, ℕ, IsTrue};
 ghost use Rattle.std.specs.List.{list_all};
 ghost use Rattle.sk_config.specs.Configs as spec;
 
-use sk_base::{Text, is_digits};
+use crate::json::JsonText;
+use sk_base::{Text, WantOfMemory, is_digits};
+use std::alloc::Global;
+use std::marker::Model;
 
 /// What each address begins with.
 const SCHEME: &str = "silkit://";
+
+/// A text that is an address. Contracts see its bytes.
+#[derive(Debug, Drop)]
+pub struct Address {
+    uri: Text,
+}
+
+impl Model for Address {
+    ghost Value = { List ℕ };
+
+    ghost view = { λ address. address.uri };
+
+    ghost invariant = { λ address. IsTrue (spec.is_address address.uri) };
+}
+
+impl Address {
+    /// The text.
+    pub fn into_text(self) -> Text
+        ensures text { result ≡ self }
+        ensures rule { IsTrue (spec.is_address result) }
+    {
+        self.uri
+    }
+}
+
+impl JsonText for Address {
+    ghost is_fine = { spec.is_address };
+
+    ghost says = { λ address. address };
+
+    #[tactic(auto, unfolding(crate::specs::Configs::is_address))]
+    fn from_text(alloc: Global, text: &str) -> Result<Option<Address>, WantOfMemory> {
+        let Some(uri) = Text::from_utf8(alloc, text.as_bytes())? else {
+            return Ok(None);
+        };
+        if !is_address(&uri) {
+            return Ok(None);
+        }
+        Ok(Some(Address { uri }))
+    }
+}
 
 /// Whether the text is an address: `silkit://HOST:PORT`, of at most 64 bytes as each text, with
 /// HOST of ASCII letters, digits, `.` and `-`, at least one of them, and PORT decimal digits of a

@@ -3,6 +3,7 @@
 ghost use Rattle.std.specs.Prelude.{◌≡◌};
 ghost use Rattle.sk_config.specs.declared.fault.ConfigFault.TheVariants as faults;
 
+use crate::json::JsonFault;
 use crate::path::Path;
 use sk_base::WantOfMemory;
 use std::alloc::{AllocError, AllocFailed};
@@ -62,6 +63,36 @@ impl ConfigFault {
             ConfigFault::Double(_) => "double",
             ConfigFault::WantOfMemory => "out of memory",
         }
+    }
+}
+
+impl JsonFault for ConfigFault {
+    ghost use Rattle.sk_config.specs.Faults.{config_faults};
+
+    ghost faults = { config_faults };
+
+    fn not_json() -> ConfigFault {
+        ConfigFault::NotJson
+    }
+
+    fn missing(path: Path) -> ConfigFault {
+        ConfigFault::Missing(path)
+    }
+
+    fn wrong_type(path: Path) -> ConfigFault {
+        ConfigFault::WrongType(path)
+    }
+
+    fn bad_text(path: Path) -> ConfigFault {
+        ConfigFault::BadValue(path)
+    }
+
+    fn out_of_range(path: Path) -> ConfigFault {
+        ConfigFault::BadValue(path)
+    }
+
+    fn no_memory() -> ConfigFault {
+        ConfigFault::WantOfMemory
     }
 }
 

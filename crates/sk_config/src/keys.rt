@@ -5,6 +5,7 @@
 ghost use Rattle.std.specs.Prelude.{◌≡◌};
 ghost use Rattle.sk_config.specs.Keys as spec;
 
+use crate::json::KnownKeys;
 use sk_msg::ServiceKind::{self, Can, Client, Ethernet, Lin, Publisher, Server, Subscriber};
 use std::marker::Model;
 
@@ -150,16 +151,15 @@ pub enum Object {
     Middleware,
 }
 
-impl Object {
-    /// Whether it may have this key.
+impl KnownKeys for Object {
+    ghost is_known = { spec.knows };
+
     #[tactic(auto, unfolding(crate::specs::Keys::knows))]
-    pub fn knows(self, key: &str) -> bool
-        ensures { result ≡ spec.knows self key.now }
-    {
+    fn knows(&self, key: &str) -> bool {
         match self {
             Object::Root => key == PARTICIPANT_NAME || is_list_key(key) || key == MIDDLEWARE,
             Object::Entry(kind) => {
-                let row = Row::of(kind);
+                let row = Row::of(*kind);
                 key == NAME || key == row.target() || row.has_history() && key == HISTORY
             }
             Object::Middleware => key == REGISTRY_URI,

@@ -2,7 +2,8 @@
 
 ghost use Rattle.std.specs.Prelude.{◌≡◌, ◌↔◌, ◌≢◌, Ok, Err, None, [], IsTrue, ℕ, List};
 ghost use Rattle.sk_config.specs.Configs.{ConfigValue, is_config};
-ghost use Rattle.sk_config.specs.Reading.{json_of, reading, reading_at};
+ghost use Rattle.sk_config.specs.Json.{json_of};
+ghost use Rattle.sk_config.specs.Reading.{reading, reading_at};
 ghost use Rattle.sk_config.specs.declared.fault.ConfigFault.TheVariants.{NotJson, WantOfMemory};
 ghost use Rattle.sk_config.specs.Written.{config_data};
 

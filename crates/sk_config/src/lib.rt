@@ -21,6 +21,7 @@
 mod address;
 mod config;
 mod fault;
+pub mod json;
 mod keys;
 pub mod laws;
 mod overrides;

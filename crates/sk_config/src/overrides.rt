@@ -90,7 +90,7 @@ fn entry_for<'a>(config: &'a Config, service: &Service) -> Option<&'a ConfigEntr
     config
         .entries(service.kind)
         .iter()
-        .find(|entry| entry.name.as_str() == service.name.as_str())
+        .find(|entry| entry.name.is(&service.name))
 }
 
 /// The specification again, with this topic in place of its own where there is one.
@@ -166,5 +166,7 @@ fn note_unserved(
 fn is_served(services: &[Service], kind: ServiceKind, name: &Name) -> bool
     ensures { result ≡ spec.is_served services.now kind name.now }
 {
-    services.iter().any(|service| service.kind == kind && service.name.as_str() == name.as_str())
+    services
+        .iter()
+        .any(|service| service.kind == kind && service.name.is(name))
 }

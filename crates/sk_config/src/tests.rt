@@ -1,22 +1,11 @@
 //! The format on tables of files.
 
-use crate::{ConfigFault, Path, Warnings, apply, apply_at, config_text, read_config};
+use crate::{ConfigFault, Path, Warnings, apply, apply_at, config_text, json, read_config};
 use sk_base::{Name, Text};
 use sk_msg::{Service, ServiceKind, Spec};
 use std::alloc::{AllocError, Global};
 use std::process::Abort;
 use std::test::Fail;
-
-/// The lists, each with the key of what its services speak of.
-const LISTS: [(&str, &str); 7] = [
-    ("CanControllers", "Network"),
-    ("EthernetControllers", "Network"),
-    ("LinControllers", "Network"),
-    ("DataPublishers", "Topic"),
-    ("DataSubscribers", "Topic"),
-    ("RpcServers", "FunctionName"),
-    ("RpcClients", "FunctionName"),
-];
 
 /// The lines of the warnings, each behind a newline.
 fn push_lines(alloc: Global, text: &mut String, warnings: &Warnings) -> Result<(), Fail> {
@@ -75,121 +64,6 @@ fn refuses_a_controller_without_a_name(rt: HostRuntime) -> Result<(), Fail> {
 }
 
 #[test]
-fn root_and_name(rt: HostRuntime) -> Result<(), Fail> {
-    expect(&rt, "[]", ": wrong type")?;
-    expect(
-        &rt,
-        r#"{"ParticipantName":null}"#,
-        "/ParticipantName: wrong type",
-    )?;
-    expect(
-        &rt,
-        r#"{"ParticipantName":""}"#,
-        "/ParticipantName: bad value",
-    )?;
-    // of two equal keys the last value counts
-    expect(
-        &rt,
-        r#"{"ParticipantName":1,"ParticipantName":"A"}"#,
-        r#"{"ParticipantName":"A"}"#,
-    )
-}
-
-#[test]
-fn middleware(rt: HostRuntime) -> Result<(), Fail> {
-    expect(&rt, r#"{"Middleware":[]}"#, "/Middleware: wrong type")?;
-    expect(
-        &rt,
-        r#"{"Middleware":{"RegistryUri":1}}"#,
-        "/Middleware/RegistryUri: wrong type",
-    )?;
-    expect(
-        &rt,
-        r#"{"Middleware":{"RegistryUri":"a"}}"#,
-        "/Middleware/RegistryUri: bad value",
-    )?;
-    // what is empty isn't written
-    expect(&rt, r#"{"Middleware":{},"LinControllers":[]}"#, "{}")
-}
-
-#[test]
-fn goes_by_the_table(rt: HostRuntime) -> Result<(), Fail> {
-    expect(
-        &rt,
-        r#"{"RpcClients":1,"DataPublishers":1}"#,
-        "/DataPublishers: wrong type",
-    )?;
-    expect(
-        &rt,
-        r#"{"Middleware":1,"RpcClients":1}"#,
-        "/RpcClients: wrong type",
-    )
-}
-
-#[test]
-fn entries(rt: HostRuntime) -> Result<(), Fail> {
-    expect(&rt, r#"{"RpcServers":{}}"#, "/RpcServers: wrong type")?;
-    expect(&rt, r#"{"RpcServers":[1]}"#, "/RpcServers/0: wrong type")?;
-    expect(
-        &rt,
-        r#"{"RpcServers":[{"Name":1}]}"#,
-        "/RpcServers/0/Name: wrong type",
-    )?;
-    expect(
-        &rt,
-        r#"{"RpcServers":[{"Name":""}]}"#,
-        "/RpcServers/0/Name: bad value",
-    )?;
-    // a double name comes before the other keys of its entry
-    expect(
-        &rt,
-        r#"{"RpcServers":[{"Name":"a"},{"Name":"a","FunctionName":1}]}"#,
-        "/RpcServers/1/Name: double",
-    )
-}
-
-#[test]
-fn every_list(rt: HostRuntime) -> Result<(), Fail> {
-    for (list, target) in LISTS {
-        let file = format!(in rt.alloc(); "{{\"{list}\":[{{\"{target}\":\"\",\"Name\":\"a\"}}]}}")?;
-        let wanted = format!(in rt.alloc(); "/{list}/0/{target}: bad value")?;
-        expect(&rt, file.as_str(), wanted.as_str())?;
-    }
-    Ok(())
-}
-
-#[test]
-fn histories(rt: HostRuntime) -> Result<(), Fail> {
-    expect(
-        &rt,
-        r#"{"DataPublishers":[{"Topic":"t","Name":"a","History":1}]}"#,
-        r#"{"DataPublishers":[{"History":1,"Name":"a","Topic":"t"}]}"#,
-    )?;
-    for (history, rule) in [
-        ("2", "bad value"),
-        ("1.0", "wrong type"),
-        ("-0", "wrong type"),
-    ] {
-        let file = format!(in rt.alloc();
-            "{{\"DataPublishers\":[{{\"Name\":\"a\",\"History\":{history}}}]}}"
-        )?;
-        let wanted = format!(in rt.alloc(); "/DataPublishers/0/History: {rule}")?;
-        expect(&rt, file.as_str(), wanted.as_str())?;
-    }
-    Ok(())
-}
-
-/// Keys in byte order, the root's first, each as a path has it.
-#[test]
-fn keys_in_paths(rt: HostRuntime) -> Result<(), Fail> {
-    expect(
-        &rt,
-        r#"{"ä~":1,"a/b":2,"LinControllers":[{"Name":"n","History":0}]}"#,
-        "{\"LinControllers\":[{\"Name\":\"n\"}]}\nwarning: /a~1b: not used\nwarning: /ä~0: not used\nwarning: /LinControllers/0/History: not used",
-    )
-}
-
-#[test]
 fn addresses(rt: HostRuntime) -> Result<(), Fail> {
     for address in ["silkit://localhost:8500", "silkit://a-b.C9:0065535"] {
         let text = Text::new(rt.alloc(), address)?;
@@ -220,34 +94,22 @@ fn not_json(rt: HostRuntime) -> Result<(), Fail> {
     Ok(())
 }
 
+/// Numbers, lists and texts at a key.
 #[test]
-fn nests_too_deep(rt: HostRuntime) -> Result<(), Fail> {
-    let mut deep = String::new(rt.alloc());
-    for _ in 0..128u32 {
-        deep.push('[')?;
-    }
-    for _ in 0..128u32 {
-        deep.push(']')?;
-    }
-    expect(&rt, deep.as_str(), ": not JSON")
-}
-
-/// A list of so many entries, of which the last one's name is no text.
-fn long_list(alloc: Global, count: u32) -> Result<String, AllocError> {
-    let mut file = String::from_str(alloc, "{\"RpcServers\":[")?;
-    for number in 1..count {
-        file.push_str(format!(in alloc; "{{\"Name\":\"n{number}\"}},")?.as_str())?;
-    }
-    file.push_str("{\"Name\":1}]}")?;
-    Ok(file)
-}
-
-#[test]
-fn longest_list(rt: HostRuntime) -> Result<(), Fail> {
-    let longest = long_list(rt.alloc(), 64)?;
-    expect(&rt, longest.as_str(), "/RpcServers/63/Name: wrong type")?;
-    let longer = long_list(rt.alloc(), 65)?;
-    expect(&rt, longer.as_str(), "/RpcServers: bad value")
+fn values_at_keys(rt: HostRuntime) -> Result<(), Fail> {
+    let alloc = rt.alloc();
+    let value = json::parse::<ConfigFault>(alloc, br#"{"a":[1,2],"b":7,"c":""}"#)?;
+    let at = Path::root(alloc);
+    let number = json::number_at::<ConfigFault>(alloc, &at, "b", &value, 1, 7)?;
+    assert_eq!(rt; number, Some(7));
+    let low = json::number_at::<ConfigFault>(alloc, &at, "b", &value, 1, 6);
+    let fault = low.err().ok_or("too large")?;
+    assert_eq!(rt; line(alloc, &fault)?.as_str(), "/b: bad value");
+    let items = json::list_at::<ConfigFault>(alloc, &at, "a", &value, 1, 2)?;
+    assert_eq!(rt; items.ok_or("no list")?.len(), 2);
+    let text: Option<Text> = json::text_at::<Text, ConfigFault>(alloc, &at, "c", &value)?;
+    assert!(rt; text.ok_or("no text")?.as_str().is_empty());
+    Ok(())
 }
 
 fn service(alloc: Global, kind: ServiceKind, topic: &str) -> Result<Service, Fail> {

@@ -58,11 +58,25 @@ impl Model for Warnings {
 }
 
 impl Warnings {
+    ghost use Rattle.std.specs.Prelude.{IfOk, map};
+    ghost use Rattle.sk_config.specs.Reading.{not_used};
+
     /// These warnings, in this order.
     pub fn new(warnings: Vec<Warning>) -> Warnings
         ensures { result ≡ warnings.items }
     {
         Warnings { warnings }
+    }
+
+    /// Keys that were passed over, at these paths.
+    pub fn of_unused(alloc: Global, paths: Vec<Path>) -> Result<Warnings, WantOfMemory>
+        ensures { IfOk result (λ warnings. warnings ≡ map not_used paths.items) }
+    {
+        let mut warnings = Vec::with_capacity(alloc, paths.len())?;
+        for path in paths {
+            warnings.push(Warning { path, unused: true })?;
+        }
+        Ok(Warnings { warnings })
     }
 
     /// The list.

@@ -8,8 +8,8 @@ use Rattle.sk_msg.specs.Edges.{has_edge, has_edge_of, IsPath}
 use Rattle.sk_msg.specs.declared.command.Command.{Command}
 use Rattle.sk_msg.specs.declared.state.State.{State}
 use Rattle.sk_msg.specs.declared.state.State.TheVariants.{Invalid, ServicesCreated, CommunicationInitializing, CommunicationInitialized, ReadyToRun, Running, Paused, Stopping, Stopped, Error, ShuttingDown, Shutdown, Aborting}
-use Rattle.sk_msg.proofs.EdgeLaws.{led_to-edge, led_to-none, has_edge_of-edge, all_commands, each_command}
-use Rattle.sk_msg.proofs.StateLaws.{all_states, each_pair, beq-same}
+use Rattle.sk_lifecycle.proofs.EdgeLaws.{led_to-edge, led_to-none, has_edge_of-edge, all_commands, each_command}
+use Rattle.sk_lifecycle.proofs.StateLaws.{all_states, each_pair, beq-same}
 use Rattle.sk_lifecycle.specs.declared.known.Known.{Known}
 use Rattle.sk_lifecycle.specs.Course.{Course, Call, Ask, Enter, Advance, chain_row, goes_to, moved, after_call, after_calls, passed, last_of, asks_for}
 

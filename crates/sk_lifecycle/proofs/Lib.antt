@@ -1,1 +1,4 @@
+pub mod StateLaws
+pub mod EdgeLaws
 pub mod CourseLaws
+pub mod ToldLaws

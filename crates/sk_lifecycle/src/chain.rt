@@ -1,6 +1,8 @@
 //! The chain from the start to the end: when each state of it is left.
 
-ghost use Rattle.std.specs.Prelude.{◌≡◌};
+ghost use Rattle.std.specs.Prelude.{◌≡◌, IsTrue, IfSome};
+ghost use Rattle.sk_msg.specs.Edges.{has_edge};
+ghost use Rattle.sk_msg.specs.Rules.{is_told};
 ghost use Rattle.sk_system.specs.View.{view_reached};
 ghost use Rattle.sk_lifecycle.specs.Course.{are_there, chain_row};
 
@@ -11,9 +13,20 @@ use sk_msg::State::{
 };
 use sk_system::SystemView;
 
-/// The next state in the chain, where what it waits for holds.
-#[tactic(auto, unfolding(crate::specs::Course::chain_row))]
+/// The next state in the chain, where what this state waits for holds; None where it doesn't, and
+/// outside the chain. It costs at most one look at those that are required.
+#[tactic(auto, using(crate::proofs::CourseLaws::row_edges, crate::proofs::ToldLaws::told))]
 pub fn next_state(coordinated: bool, state: State, view: &SystemView, known: Known) -> Option<State>
+    ensures row { result ≡ chain_row coordinated (view_reached view.now) known state }
+    ensures edge { IfSome result (λ to. IsTrue (has_edge state to)) }
+    ensures told { IfSome result (λ to. IsTrue (is_told to)) }
+{
+    row(coordinated, state, view, known)
+}
+
+/// The row of this state.
+#[tactic(auto, unfolding(crate::specs::Course::chain_row))]
+fn row(coordinated: bool, state: State, view: &SystemView, known: Known) -> Option<State>
     ensures { result ≡ chain_row coordinated (view_reached view.now) known state }
 {
     let all_here = || are_there(coordinated, view, state);

@@ -1,9 +1,10 @@
 //! The graph of states, as a table.
 
-ghost use Rattle.std.specs.Prelude.{◌≡◌, ◌&&◌, find, option_map};
+ghost use Rattle.std.specs.Prelude.{◌≡◌, ◌&&◌, true, IsTrue, IfSome, find, option_map};
 ghost use Rattle.std.specs.List.{list_any};
 ghost use Rattle.sk_msg.specs.States.{is_state};
 ghost use Rattle.sk_msg.specs.Edges.{is_asked_by, has_edge, led_to};
+ghost use Rattle.sk_msg.specs.Rules.{is_told};
 
 use sk_msg::Command::{self, Abort, Continue, Pause, ReportError, Stop};
 use sk_msg::State::{
@@ -61,19 +62,17 @@ const EDGES: [Edge; 30] = [
 
 impl Edge {
     /// Whether it leads from the one state to the other.
-    #[tactic(auto, using(sk_msg::proofs::StateLaws::same_states))]
     fn joins(&self, from: State, to: State) -> bool
         ensures { result ≡ (is_state self.now.from from && is_state self.now.to to) }
     {
-        self.0 == from && self.2 == to
+        is_same(self.0, from) && is_same(self.2, to)
     }
 
     /// Whether it leads on from this state by the command.
-    #[tactic(auto, using(sk_msg::proofs::StateLaws::same_states))]
     fn answers(&self, from: State, command: Command) -> bool
         ensures { result ≡ (is_state self.now.from from && is_asked_by command self.now.command) }
     {
-        self.0 == from && self.1 == Some(command)
+        is_same(self.0, from) && self.1 == Some(command)
     }
 
     /// Where it leads.
@@ -84,17 +83,45 @@ impl Edge {
     }
 }
 
-/// Whether an edge leads from the one state to the other.
-#[tactic(auto, unfolding(sk_msg::specs::Edges::has_edge))]
+/// Whether both are one state, as a test that contracts name.
+#[tactic(auto, unfolding(sk_msg::specs::States::is_state))]
+fn is_same(one: State, other: State) -> bool
+    ensures { result ≡ is_state one other }
+{
+    one.number() == other.number()
+}
+
+/// Whether an edge leads from the one state to the other; none leads to Invalid. It costs a look at
+/// the 30 edges.
+#[tactic(auto, using(crate::proofs::ToldLaws::told))]
 pub fn has_edge(from: State, to: State) -> bool
+    ensures edge { result ≡ has_edge from to }
+    ensures told { result ≡ true → IsTrue (is_told to) }
+{
+    some_edge(from, to)
+}
+
+/// Where the command leads from this state, or None where the state has no edge of it. It costs a
+/// look at the 30 edges.
+pub fn led_to(from: State, command: Command) -> Option<State>
+    ensures to { result ≡ led_to from command }
+    ensures edge { IfSome result (λ to. IsTrue (has_edge from to)) }
+    ensures told { IfSome result (λ to. IsTrue (is_told to)) }
+{
+    first_led_to(from, command)
+}
+
+/// Whether one of all edges leads from the one state to the other.
+#[tactic(auto, unfolding(sk_msg::specs::Edges::has_edge))]
+fn some_edge(from: State, to: State) -> bool
     ensures { result ≡ has_edge from to }
 {
     some_joins(&EDGES, from, to)
 }
 
-/// Where the command leads from this state, or None where the state has no edge of it.
+/// Where the first of all edges leads that leads on from this state by the command.
 #[tactic(auto, unfolding(sk_msg::specs::Edges::led_to))]
-pub fn led_to(from: State, command: Command) -> Option<State>
+fn first_led_to(from: State, command: Command) -> Option<State>
     ensures { result ≡ led_to from command }
 {
     first_answer(&EDGES, from, command)

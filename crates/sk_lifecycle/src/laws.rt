@@ -14,12 +14,14 @@ pub fn states_are_a_walk()
     ensures walk { (coordinated : Bool) (calls : List Call) →
         IsWalk (ServicesCreated ∷ passed (start coordinated) calls) }
     ensures end { (coordinated : Bool) (calls : List Call) →
-        last_of ServicesCreated (passed (start coordinated) calls) ≡ (after_calls (start coordinated) calls).state }
+        last_of ServicesCreated (passed (start coordinated) calls)
+        ≡ (after_calls (start coordinated) calls).state }
 {}
 
 /// A number is that of a state exactly where the state is that of the number.
 pub fn numbers_name_states()
-    ensures { (number : ℕ) (state : State) → (state_of number ≡ Some state) ↔ (state_number state ≡ number) }
+    ensures { (number : ℕ) (state : State) →
+        (state_of number ≡ Some state) ↔ (state_number state ≡ number) }
 {}
 
 /// The edges of a command are those that its words say.

@@ -3,9 +3,9 @@ use Rattle.std.proofs.Common.{◌≡◌, ℕ, zero, suc, ◌<◌, ◌+◌, ◌�
 use Rattle.std.specs.List.{slice_get}
 use Rattle.std.proofs.lemmas.Option.{none-some}
 use mathlib.Core.List.{IsPrefix}
-use Rattle.sk_mesh.specs.declared.link.Link.{Link}
+use Rattle.sk_mesh.specs.declared.ring_pair.RingPair.{RingPair}
 use Rattle.sk_mesh.specs.Places.{Account, Way, way_at, way_in, place, AreOfOneMesh}
-use Rattle.sk_mesh.specs.Links.{Looked, KnowsRing}
+use Rattle.sk_mesh.specs.Pairs.{Looked, KnowsRing}
 use Rattle.sk_mesh.specs.Ends.{pushed, popped, free, waiting, room, Looks, Agrees, Knows}
 use Rattle.sk_mesh.proofs.Writes.{Wrote, wrote, account, looks, pushed_wrote, popped_wrote, free_wrote, waiting_wrote, room_wrote}
 
@@ -20,7 +20,7 @@ record KnowAll (a b : Account) (n m : ℕ) : Type 0 where
   slots : free a m + length (pushed a m) ≡ room (place a) m + length (popped b n)
   order : popped b n ++ waiting b n ≡ pushed a m
 
-know_all : (a a' b b' : Account) (n m : ℕ) (x x' y y' : Option Link) → Wrote a a' m x x' → Wrote b b' n y y' → way_at x' ≡ way_at x → KnowsRing x' y' → KnowAll a' b' n m
+know_all : (a a' b b' : Account) (n m : ℕ) (x x' y y' : Option RingPair) → Wrote a a' m x x' → Wrote b b' n y y' → way_at x' ≡ way_at x → KnowsRing x' y' → KnowAll a' b' n m
 know_all a a' b b' n m x x' y y' v w same k =
     let s = pushed_wrote a a' m x x' v in let f = free_wrote a a' m x x' v in let r = room_wrote a a' m x x' v same in
     let p = popped_wrote b b' n y y' w in let t = waiting_wrote b b' n y y' w in record {
@@ -50,7 +50,7 @@ pub record Beside (a b a' b' : Account) : Type 0 where
   pub agrees : Agrees a b × Agrees b a
   pub knows : Knows a' b' × Knows b' a'
 
-both : (n m : ℕ) (xs ys : List (Option Link)) (x x' y y' : Option Link) → AreOfOneMesh (place (account n xs)) (place (account m ys))
+both : (n m : ℕ) (xs ys : List (Option RingPair)) (x x' y y' : Option RingPair) → AreOfOneMesh (place (account n xs)) (place (account m ys))
     → x ≡ get_or xs m x → y ≡ get_or ys n y → Looked x x' → Looked y y' → KnowsRing x' y' → KnowsRing y' x'
     → Beside (account n xs) (account m ys) (account n (set xs m x')) (account m (set ys n y'))
 both n m xs ys x x' y y' of_one read_x read_y look_x look_y there back =
@@ -70,7 +70,7 @@ both n m xs ys x x' y y' of_one read_x read_y look_x look_y there back =
       knows = (record { slots = k.slots; order = k.order }, record { slots = l.slots; order = l.order });
     }
 
-pub beside : (n m : ℕ) (xs ys : List (Option Link)) (a b : Account) (x x' y y' : Option Link) → account n xs ≡ a → account m ys ≡ b → AreOfOneMesh (place a) (place b)
+pub beside : (n m : ℕ) (xs ys : List (Option RingPair)) (a b : Account) (x x' y y' : Option RingPair) → account n xs ≡ a → account m ys ≡ b → AreOfOneMesh (place a) (place b)
     → x ≡ get_or xs m x → y ≡ get_or ys n y → Looked x x' → Looked y y' → KnowsRing x' y' → KnowsRing y' x'
     → Beside a b (account n (set xs m x')) (account m (set ys n y'))
 beside n m xs ys a b x x' y y' is_a is_b of_one read_x read_y look_x look_y there back =

@@ -4,16 +4,17 @@ use Rattle.std.specs.List.{slice_get, All}
 use Rattle.std.proofs.lemmas.List.{length-map}
 use Rattle.std.proofs.lemmas.Option.{same_Some, none-some, slice_get-get_or, slice_get_within, slice_get_cases}
 use Rattle.std.proofs.lemmas.Bool.{cases_eq}
-use Rattle.sk_mesh.specs.declared.link.Link.{Link}
+use Rattle.sk_mesh.specs.declared.ring_pair.RingPair.{RingPair}
 use Rattle.sk_mesh.specs.Places.{Account, Place, way_at, way_in, way, place, size, IsPeer, AreOfOneMesh, IsMesh}
-use Rattle.sk_mesh.specs.Ends.{link, link_in, pushed, popped, free, waiting, room, IsUnused}
-use Rattle.sk_mesh.specs.Links.{pushed_by, popped_by, free_by, waiting_by, room_by, IsNew}
-use Rattle.sk_mesh.specs.Growth.{with_link, AreSides, Meet, HasMet, HaveMet, Joined, AreJoined, AllJoined}
+use Rattle.sk_mesh.specs.Ends.{pair, pair_in, pushed, popped, free, waiting, room, IsUnused}
+use Rattle.sk_mesh.specs.Pairs.{pushed_by, popped_by, free_by, waiting_by, room_by, IsNew}
+use Rattle.sk_mesh.specs.Growth.{with_pair, AreSides, Meet, HasMet, Joined}
+use Rattle.sk_mesh.proofs.Growing.{HaveMet, AreJoined, AllJoined}
 use Rattle.sk_mesh.proofs.ByPlace.{slice_get-set_same, slice_get-set_other, slice_get-front, slice_get-last, slice_get-cases, slice_get-some, slice_get-from_map, All-by_place, at_each}
 use Rattle.sk_mesh.proofs.Writes.{slice_get-way}
 
-pub none_met : (capacity : ℕ) (before : List Account) (newcomer : Account) → newcomer.links ≡ [] → HaveMet capacity before before newcomer 0
-none_met capacity before newcomer is = record { size = refl; links = ap length is; met = (λ i a0 h e. absurd (omega arith)); others = (λ i h. refl) }
+pub none_met : (capacity : ℕ) (before : List Account) (newcomer : Account) → newcomer.pairs ≡ [] → HaveMet capacity before before newcomer 0
+none_met capacity before newcomer is = record { size = refl; pairs = ap length is; met = (λ i a0 h e. absurd (omega arith)); others = (λ i h. refl) }
 
 met_here : (capacity : ℕ) (before es : List Account) (newcomer newcomer' : Account) (n : ℕ) (a a' : Account) → HaveMet capacity before es newcomer n → n < length es → slice_get es n ≡ Some a
     → Meet capacity a a' newcomer newcomer' → (a0 : Account) → slice_get before n ≡ Some a0 → HasMet capacity (set es n a') newcomer' n a0
@@ -22,8 +23,8 @@ met_here capacity before es newcomer newcomer' n a a' h low is m a0 was =
       near = m.near;
       far = m.far;
       sides = m.sides;
-      is_near = slice_get-set_same es n a' low ∙ ap Some (m.is_a ∙ ap (λ w. with_link w (Some m.near)) same);
-      is_far = ap (λ (w : Account). slice_get w.links n) m.is_b ∙ slice_get-last newcomer.links (Some m.far) n (sym h.links);
+      is_near = slice_get-set_same es n a' low ∙ ap Some (m.is_a ∙ ap (λ w. with_pair w (Some m.near)) same);
+      is_far = ap (λ (w : Account). slice_get w.pairs n) m.is_b ∙ slice_get-last newcomer.pairs (Some m.far) n (sym h.pairs);
     }
 
 met_before : (capacity : ℕ) (before es : List Account) (newcomer newcomer' : Account) (n : ℕ) (a a' : Account) → HaveMet capacity before es newcomer n
@@ -34,7 +35,7 @@ met_before capacity before es newcomer newcomer' n a a' h m i a0 other low was =
       far = o.far;
       sides = o.sides;
       is_near = slice_get-set_other es n i a' other ∙ o.is_near;
-      is_far = ap (λ (w : Account). slice_get w.links i) m.is_b ∙ slice_get-front newcomer.links (Some m.far ∷ []) i (Some o.far) o.is_far;
+      is_far = ap (λ (w : Account). slice_get w.pairs i) m.is_b ∙ slice_get-front newcomer.pairs (Some m.far ∷ []) i (Some o.far) o.is_far;
     }
 
 -- one more has met the newcomer
@@ -42,37 +43,37 @@ pub met_next : (capacity : ℕ) (before es : List Account) (newcomer newcomer' :
     → Meet capacity (get_or es n d) a' newcomer newcomer' → HaveMet capacity before (set es n a') newcomer' (n + 1)
 met_next capacity before es newcomer newcomer' n d a' h low m =
     let a = get_or es n d in let is : slice_get es n ≡ Some a = slice_get-get_or es n d low in
-    let links : length newcomer'.links ≡ length (newcomer.links ++ Some m.far ∷ []) = ap (λ (w : Account). length w.links) m.is_b in
-    let more : length (newcomer.links ++ Some m.far ∷ []) ≡ length newcomer.links + length (Some m.far ∷ []) = length-append newcomer.links (Some m.far ∷ []) in
-    let k : length newcomer.links ≡ n = h.links in record {
+    let pairs : length newcomer'.pairs ≡ length (newcomer.pairs ++ Some m.far ∷ []) = ap (λ (w : Account). length w.pairs) m.is_b in
+    let more : length (newcomer.pairs ++ Some m.far ∷ []) ≡ length newcomer.pairs + length (Some m.far ∷ []) = length-append newcomer.pairs (Some m.far ∷ []) in
+    let k : length newcomer.pairs ≡ n = h.pairs in record {
       size = length-set es n a' ∙ h.size;
-      links = omega arith;
+      pairs = omega arith;
       met = (λ i a0 less was. at_each (λ q. q < n + 1 → slice_get before q ≡ Some a0 → HasMet capacity (set es n a') newcomer' q a0) n i
           (λ _ w. met_here capacity before es newcomer newcomer' n a a' h low is m a0 w)
           (λ other l w. met_before capacity before es newcomer newcomer' n a a' h m i a0 other (omega arith) w) less was);
       others = (λ i l. slice_get-set_other es n i a' (omega arith) ∙ h.others i (omega arith));
     }
 
-met_still : (capacity : ℕ) (es : List Account) (newcomer newcomer' : Account) (i : ℕ) (a0 : Account) → newcomer' ≡ with_link newcomer None → HasMet capacity es newcomer i a0 → HasMet capacity es newcomer' i a0
+met_still : (capacity : ℕ) (es : List Account) (newcomer newcomer' : Account) (i : ℕ) (a0 : Account) → newcomer' ≡ with_pair newcomer None → HasMet capacity es newcomer i a0 → HasMet capacity es newcomer' i a0
 met_still capacity es newcomer newcomer' i a0 is o = record {
   near = o.near;
   far = o.far;
   sides = o.sides;
   is_near = o.is_near;
-  is_far = ap (λ (w : Account). slice_get w.links i) is ∙ slice_get-front newcomer.links (None ∷ []) i (Some o.far) o.is_far;
+  is_far = ap (λ (w : Account). slice_get w.pairs i) is ∙ slice_get-front newcomer.pairs (None ∷ []) i (Some o.far) o.is_far;
 }
 
 -- all have
 pub all_met : (capacity : ℕ) (before es : List Account) (newcomer newcomer' : Account) (n : ℕ) → HaveMet capacity before es newcomer n → length before ≤ n → n ≤ length before
-    → newcomer' ≡ with_link newcomer None → Joined capacity before es newcomer'
+    → newcomer' ≡ with_pair newcomer None → Joined capacity before es newcomer'
 all_met capacity before es newcomer newcomer' n h most least is =
     let k : n ≡ length before = omega arith in
-    let links : length newcomer'.links ≡ length (newcomer.links ++ None ∷ []) = ap (λ (w : Account). length w.links) is in
-    let more : length (newcomer.links ++ None ∷ []) ≡ length newcomer.links + 1 = length-append newcomer.links (None ∷ []) in
-    let m : length newcomer.links ≡ n = h.links in record {
+    let pairs : length newcomer'.pairs ≡ length (newcomer.pairs ++ None ∷ []) = ap (λ (w : Account). length w.pairs) is in
+    let more : length (newcomer.pairs ++ None ∷ []) ≡ length newcomer.pairs + 1 = length-append newcomer.pairs (None ∷ []) in
+    let m : length newcomer.pairs ≡ n = h.pairs in record {
       size = h.size;
-      links = omega arith;
-      own = ap (λ (w : Account). slice_get w.links (length before)) is ∙ slice_get-last newcomer.links None (length before) (omega arith);
+      pairs = omega arith;
+      own = ap (λ (w : Account). slice_get w.pairs (length before)) is ∙ slice_get-last newcomer.pairs None (length before) (omega arith);
       met = (λ i a0 low was. met_still capacity es newcomer newcomer' i a0 is (h.met i a0 (omega arith) was));
     }
 
@@ -83,11 +84,11 @@ none_joined capacity = record { placed = (λ i a h. absurd (none-some a h)); joi
 record Grown (capacity : ℕ) (before : List Account) (newcomer : Account) (i : ℕ) (a : Account) : Type 0 where
   a0 : Account
   was : slice_get before i ≡ Some a0
-  near : Link
-  far : Link
+  near : RingPair
+  far : RingPair
   sides : AreSides capacity near far
-  is_a : a ≡ with_link a0 (Some near)
-  is_far : slice_get newcomer.links i ≡ Some (Some far)
+  is_a : a ≡ with_pair a0 (Some near)
+  is_far : slice_get newcomer.pairs i ≡ Some (Some far)
 
 grown : (capacity : ℕ) (before es : List Account) (newcomer : Account) → Joined capacity before es newcomer → (i : ℕ) (a : Account) → slice_get es i ≡ Some a → Grown capacity before newcomer i a
 grown capacity before es newcomer h i a is =
@@ -101,11 +102,11 @@ grown capacity before es newcomer h i a is =
       near = m.near;
       far = m.far;
       sides = m.sides;
-      is_a = same_Some a (with_link o.0 (Some m.near)) (sym is ∙ m.is_near);
+      is_a = same_Some a (with_pair o.0 (Some m.near)) (sym is ∙ m.is_near);
       is_far = m.is_far;
     }
 
-flip : (capacity : ℕ) (near far : Link) → AreSides capacity near far → AreSides capacity far near
+flip : (capacity : ℕ) (near far : RingPair) → AreSides capacity near far → AreSides capacity far near
 flip capacity near far s = record {
   facing = record { here = s.facing.there; there = s.facing.here; is_here = s.facing.is_there; is_there = s.facing.is_here; arrives = s.facing.returns; returns = s.facing.arrives };
   near_new = s.far_new;
@@ -116,20 +117,20 @@ module _ (capacity : ℕ) (before es : List Account) (newcomer : Account) (all :
   size_of : length (es ++ newcomer ∷ []) ≡ length before + 1
   size_of = let s : length es ≡ length before = h.size in let l : length (es ++ newcomer ∷ []) ≡ length es + length (newcomer ∷ []) = length-append es (newcomer ∷ []) in omega arith
 
-  placed_old : (i : ℕ) (a : Account) → slice_get es i ≡ Some a → (a.number ≡ i) × (length a.links ≡ length (es ++ newcomer ∷ [])) × (slice_get a.links i ≡ Some None)
+  placed_old : (i : ℕ) (a : Account) → slice_get es i ≡ Some a → (a.number ≡ i) × (length a.pairs ≡ length (es ++ newcomer ∷ [])) × (slice_get a.pairs i ≡ Some None)
   placed_old i a is =
       let g : Grown capacity before newcomer i a = grown capacity before es newcomer h i a is in
       let p = all.placed i g.a0 g.was in
-      let links : length a.links ≡ length (g.a0.links ++ Some g.near ∷ []) = ap (λ (w : Account). length w.links) g.is_a in
-      let more : length (g.a0.links ++ Some g.near ∷ []) ≡ length g.a0.links + length (Some g.near ∷ []) = length-append g.a0.links (Some g.near ∷ []) in
-      let k : length g.a0.links ≡ length before = p.1 in let s = size_of in
-      (ap (λ (w : Account). w.number) g.is_a ∙ p.0, omega arith, ap (λ (w : Account). slice_get w.links i) g.is_a ∙ slice_get-front g.a0.links (Some g.near ∷ []) i None p.2)
+      let pairs : length a.pairs ≡ length (g.a0.pairs ++ Some g.near ∷ []) = ap (λ (w : Account). length w.pairs) g.is_a in
+      let more : length (g.a0.pairs ++ Some g.near ∷ []) ≡ length g.a0.pairs + length (Some g.near ∷ []) = length-append g.a0.pairs (Some g.near ∷ []) in
+      let k : length g.a0.pairs ≡ length before = p.1 in let s = size_of in
+      (ap (λ (w : Account). w.number) g.is_a ∙ p.0, omega arith, ap (λ (w : Account). slice_get w.pairs i) g.is_a ∙ slice_get-front g.a0.pairs (Some g.near ∷ []) i None p.2)
 
-  placed_new : (i : ℕ) (a : Account) → i ≡ length es → a ≡ newcomer → (a.number ≡ i) × (length a.links ≡ length (es ++ newcomer ∷ [])) × (slice_get a.links i ≡ Some None)
+  placed_new : (i : ℕ) (a : Account) → i ≡ length es → a ≡ newcomer → (a.number ≡ i) × (length a.pairs ≡ length (es ++ newcomer ∷ [])) × (slice_get a.pairs i ≡ Some None)
   placed_new i a e is =
       let k : length es ≡ length before = h.size in
       let j : i ≡ length before = e ∙ k in
-      (ap (λ (w : Account). w.number) is ∙ (number ∙ sym j), ap (λ (w : Account). length w.links) is ∙ (h.links ∙ sym size_of), ap (λ (w : Account). slice_get w.links i) is ∙ (ap (λ q. slice_get newcomer.links q) j ∙ h.own))
+      (ap (λ (w : Account). w.number) is ∙ (number ∙ sym j), ap (λ (w : Account). length w.pairs) is ∙ (h.pairs ∙ sym size_of), ap (λ (w : Account). slice_get w.pairs i) is ∙ (ap (λ q. slice_get newcomer.pairs q) j ∙ h.own))
 
   joined_old : (i j : ℕ) (a b : Account) → i ≢ j → slice_get es i ≡ Some a → slice_get es j ≡ Some b → AreJoined capacity i j a b
   joined_old i j a b other is_a is_b =
@@ -139,16 +140,16 @@ module _ (capacity : ℕ) (before es : List Account) (newcomer : Account) (all :
         near = o.near;
         far = o.far;
         sides = o.sides;
-        is_near = ap (λ (w : Account). slice_get w.links j) g.is_a ∙ slice_get-front g.a0.links (Some g.near ∷ []) j (Some o.near) o.is_near;
-        is_far = ap (λ (w : Account). slice_get w.links i) f.is_a ∙ slice_get-front f.a0.links (Some f.near ∷ []) i (Some o.far) o.is_far;
+        is_near = ap (λ (w : Account). slice_get w.pairs j) g.is_a ∙ slice_get-front g.a0.pairs (Some g.near ∷ []) j (Some o.near) o.is_near;
+        is_far = ap (λ (w : Account). slice_get w.pairs i) f.is_a ∙ slice_get-front f.a0.pairs (Some f.near ∷ []) i (Some o.far) o.is_far;
       }
 
-  -- the link of an old one to the newcomer stands last
-  to_newcomer : (i j : ℕ) (a : Account) (g : Grown capacity before newcomer i a) → j ≡ length es → slice_get a.links j ≡ Some (Some g.near)
+  -- the rings of an old one to the newcomer stand last
+  to_newcomer : (i j : ℕ) (a : Account) (g : Grown capacity before newcomer i a) → j ≡ length es → slice_get a.pairs j ≡ Some (Some g.near)
   to_newcomer i j a g e =
-      let k : length g.a0.links ≡ length before = (all.placed i g.a0 g.was).1 in
+      let k : length g.a0.pairs ≡ length before = (all.placed i g.a0 g.was).1 in
       let s : length es ≡ length before = h.size in
-      ap (λ (w : Account). slice_get w.links j) g.is_a ∙ slice_get-last g.a0.links (Some g.near) j (omega arith)
+      ap (λ (w : Account). slice_get w.pairs j) g.is_a ∙ slice_get-last g.a0.pairs (Some g.near) j (omega arith)
 
   joined_to_new : (i j : ℕ) (a b : Account) → slice_get es i ≡ Some a → j ≡ length es → b ≡ newcomer → AreJoined capacity i j a b
   joined_to_new i j a b is_a e is_b =
@@ -157,7 +158,7 @@ module _ (capacity : ℕ) (before es : List Account) (newcomer : Account) (all :
         far = g.far;
         sides = g.sides;
         is_near = to_newcomer i j a g e;
-        is_far = ap (λ (w : Account). slice_get w.links i) is_b ∙ g.is_far;
+        is_far = ap (λ (w : Account). slice_get w.pairs i) is_b ∙ g.is_far;
       }
 
   joined_from_new : (i j : ℕ) (a b : Account) → i ≡ length es → a ≡ newcomer → slice_get es j ≡ Some b → AreJoined capacity i j a b
@@ -166,7 +167,7 @@ module _ (capacity : ℕ) (before es : List Account) (newcomer : Account) (all :
         near = g.far;
         far = g.near;
         sides = flip capacity g.near g.far g.sides;
-        is_near = ap (λ (w : Account). slice_get w.links j) is_a ∙ g.is_far;
+        is_near = ap (λ (w : Account). slice_get w.pairs j) is_a ∙ g.is_far;
         is_far = to_newcomer j i b g e;
       }
 
@@ -187,8 +188,8 @@ of_one_mesh capacity i j a b other is_i is_j h =
       facing = record {
         here = f.here;
         there = f.there;
-        is_here = ap (way (place a)) is_j ∙ (ap way_in (slice_get-way a.links j (Some h.near) h.is_near) ∙ f.is_here);
-        is_there = ap (way (place b)) is_i ∙ (ap way_in (slice_get-way b.links i (Some h.far) h.is_far) ∙ f.is_there);
+        is_here = ap (way (place a)) is_j ∙ (ap way_in (slice_get-way a.pairs j (Some h.near) h.is_near) ∙ f.is_here);
+        is_there = ap (way (place b)) is_i ∙ (ap way_in (slice_get-way b.pairs i (Some h.far) h.is_far) ∙ f.is_there);
         arrives = f.arrives;
         returns = f.returns;
       };
@@ -198,42 +199,42 @@ pub is_mesh : (capacity : ℕ) (es : List Account) → AllJoined capacity es →
 is_mesh capacity es all = record {
   placed = (λ i p is.
       let o = slice_get-from_map place es i p is in let k = all.placed i o.0 o.1 in
-      (ap (λ (w : Place). w.number) (sym o.2) ∙ k.0, ap (λ (w : Place). length w.ways) (sym o.2) ∙ (length-map o.0.links way_at ∙ (k.1 ∙ sym (length-map es place)))));
-  linked = (λ i j p q other is_p is_q.
+      (ap (λ (w : Place). w.number) (sym o.2) ∙ k.0, ap (λ (w : Place). length w.ways) (sym o.2) ∙ (length-map o.0.pairs way_at ∙ (k.1 ∙ sym (length-map es place)))));
+  joined = (λ i j p q other is_p is_q.
       let o = slice_get-from_map place es i p is_p in let u = slice_get-from_map place es j q is_q in
       let k : AreOfOneMesh (place o.0) (place u.0) = of_one_mesh capacity i j o.0 u.0 other (all.placed i o.0 o.1).0 (all.placed j u.0 u.1).0 (all.joined i j o.0 u.0 other o.1 u.1) in
       subst (λ w. AreOfOneMesh w q) o.2 (subst (λ w. AreOfOneMesh (place o.0) w) u.2 k));
 }
 
--- a link is new, or there is none and it is no peer
+-- the rings are new, or there are none and it is no peer
 abbrev NewOrNone : ℕ → Account → ℕ → Type 0
-NewOrNone capacity a q = ((l : Link) × (slice_get a.links q ≡ Some (Some l)) × IsNew capacity l) ⊎ ((link a q ≡ None) × (IsPeer (place a) q → ⊥))
+NewOrNone capacity a q = ((l : RingPair) × (slice_get a.pairs q ≡ Some (Some l)) × IsNew capacity l) ⊎ ((pair a q ≡ None) × (IsPeer (place a) q → ⊥))
 
-past : (xs : List (Option Link)) (q : ℕ) → length xs ≤ q → link_in (slice_get xs q) ≡ None
+past : (xs : List (Option RingPair)) (q : ℕ) → length xs ≤ q → pair_in (slice_get xs q) ≡ None
 past [] q h = refl
 past (x ∷ xs) zero h = absurd (omega arith)
 past (x ∷ xs) (suc q) h = past xs q (omega arith)
 
 new_or_none : (capacity : ℕ) (es : List Account) → AllJoined capacity es → (i : ℕ) (a : Account) → slice_get es i ≡ Some a → (q : ℕ) → NewOrNone capacity a q
 new_or_none capacity es all i a is q =
-    let k = all.placed i a is in let as_many : length a.links ≡ length es = k.1 in
+    let k = all.placed i a is in let as_many : length a.pairs ≡ length es = k.1 in
     elim (slice_get_cases es q).1 [
       | inl b ↦ elim (cases_eq q i) [
-        | inl e ↦ inr (ap (λ n. link_in (slice_get a.links n)) e ∙ ap link_in k.2, (λ (p : IsPeer (place a) q). p.1 (e ∙ sym k.0)))
+        | inl e ↦ inr (ap (λ n. pair_in (slice_get a.pairs n)) e ∙ ap pair_in k.2, (λ (p : IsPeer (place a) q). p.1 (e ∙ sym k.0)))
         | inr other ↦ let j : AreJoined capacity i q a b.0 = all.joined i q a b.0 (λ e. other (sym e)) is b.2 in inl (j.near, j.is_near, j.sides.near_new)
       ]
-      | inr none ↦ let far : length es ≤ q = none.0 in inr (past a.links q (omega arith), (λ (p : IsPeer (place a) q). let low : q < size (place a) = p.0 in let all : size (place a) ≡ length a.links = length-map a.links way_at in omega arith))
+      | inr none ↦ let far : length es ≤ q = none.0 in inr (past a.pairs q (omega arith), (λ (p : IsPeer (place a) q). let low : q < size (place a) = p.0 in let all : size (place a) ≡ length a.pairs = length-map a.pairs way_at in omega arith))
     ]
 
 unused : (capacity : ℕ) (es : List Account) → AllJoined capacity es → (i : ℕ) (a : Account) → slice_get es i ≡ Some a → IsUnused capacity a
 unfolding pushed popped waiting free room
 unused capacity es all i a is =
     let n = new_or_none capacity es all i a is in record {
-      pushed = (λ q. elim (n q) [ inl l ↦ ap pushed_by (ap link_in l.1) ∙ l.2.pushed | inr none ↦ ap pushed_by none.0 ]);
-      popped = (λ q. elim (n q) [ inl l ↦ ap popped_by (ap link_in l.1) ∙ l.2.popped | inr none ↦ ap popped_by none.0 ]);
-      waiting = (λ q. elim (n q) [ inl l ↦ ap waiting_by (ap link_in l.1) ∙ l.2.waiting | inr none ↦ ap waiting_by none.0 ]);
-      free = (λ q p. elim (n q) [ inl l ↦ ap free_by (ap link_in l.1) ∙ l.2.free | inr none ↦ absurd (none.1 p) ]);
-      room = (λ q p. elim (n q) [ inl l ↦ ap (λ w. room_by (way_in w)) (slice_get-way a.links q (Some l.0) l.1) ∙ l.2.room | inr none ↦ absurd (none.1 p) ]);
+      pushed = (λ q. elim (n q) [ inl l ↦ ap pushed_by (ap pair_in l.1) ∙ l.2.pushed | inr none ↦ ap pushed_by none.0 ]);
+      popped = (λ q. elim (n q) [ inl l ↦ ap popped_by (ap pair_in l.1) ∙ l.2.popped | inr none ↦ ap popped_by none.0 ]);
+      waiting = (λ q. elim (n q) [ inl l ↦ ap waiting_by (ap pair_in l.1) ∙ l.2.waiting | inr none ↦ ap waiting_by none.0 ]);
+      free = (λ q p. elim (n q) [ inl l ↦ ap free_by (ap pair_in l.1) ∙ l.2.free | inr none ↦ absurd (none.1 p) ]);
+      room = (λ q p. elim (n q) [ inl l ↦ ap (λ w. room_by (way_in w)) (slice_get-way a.pairs q (Some l.0) l.1) ∙ l.2.room | inr none ↦ absurd (none.1 p) ]);
     }
 
 pub all_unused : (capacity : ℕ) (es : List Account) → AllJoined capacity es → All (IsUnused capacity) es

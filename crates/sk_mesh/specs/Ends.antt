@@ -3,33 +3,33 @@ use Rattle.std.specs.Prelude.{◌≡◌, ◌≢◌, ℕ, ◌+◌, ◌≤◌, Lis
 use Rattle.std.specs.List.{slice_get}
 use mathlib.Core.List.{IsPrefix}
 use Rattle.sk_msg.specs.declared.content.Content.{Content}
-use Rattle.sk_mesh.specs.declared.link.Link.{Link}
+use Rattle.sk_mesh.specs.declared.ring_pair.RingPair.{RingPair}
 use Rattle.sk_mesh.specs.Places.{Account, Place, place, way, IsPeer}
-use Rattle.sk_mesh.specs.Links.{pushed_by, popped_by, free_by, waiting_by, room_by}
+use Rattle.sk_mesh.specs.Pairs.{pushed_by, popped_by, free_by, waiting_by, room_by}
 
-abbrev pub link_in : Option (Option Link) → Option Link
-link_in None = None
-link_in (Some l) = l
+abbrev pub pair_in : Option (Option RingPair) → Option RingPair
+pair_in None = None
+pair_in (Some l) = l
 
--- the link to a peer
-abbrev pub link : Account → ℕ → Option Link
-link a p = link_in (slice_get a.links p)
+-- the rings to and from a peer
+abbrev pub pair : Account → ℕ → Option RingPair
+pair a p = pair_in (slice_get a.pairs p)
 
 -- all that was pushed to a peer, oldest first
 unfoldable pub pushed : Account → ℕ → List Content
-pushed a p = pushed_by (link a p)
+pushed a p = pushed_by (pair a p)
 
 -- all that was popped from a peer, oldest first
 unfoldable pub popped : Account → ℕ → List Content
-popped a p = popped_by (link a p)
+popped a p = popped_by (pair a p)
 
 -- how many slots of the ring to a peer are known to be free
 unfoldable pub free : Account → ℕ → ℕ
-free a p = free_by (link a p)
+free a p = free_by (pair a p)
 
 -- the messages of a peer that are known to be in the ring, oldest first
 unfoldable pub waiting : Account → ℕ → List Content
-waiting a p = waiting_by (link a p)
+waiting a p = waiting_by (pair a p)
 
 -- how many messages the ring to a peer has room for
 unfoldable pub room : Place → ℕ → ℕ

@@ -1,5 +1,5 @@
 pub mod Rings
 pub mod Places
-pub mod Links
+pub mod Pairs
 pub mod Ends
 pub mod Growth

@@ -2,12 +2,12 @@
 use Rattle.std.specs.Prelude.{◌≡◌, ◌≢◌, ℕ, ◌<◌, List, length, map, Option, Some, None}
 use Rattle.std.specs.List.{slice_get}
 use Rattle.sk_mesh.specs.Rings.{Ring}
-use Rattle.sk_mesh.specs.declared.link.Link.{Link}
+use Rattle.sk_mesh.specs.declared.ring_pair.RingPair.{RingPair}
 
--- a participant's ends: one link to each participant in number order, and none to itself
+-- a participant's ends: its two rings to and from each participant in number order, and none to itself
 pub record Account : Type 0 where
   pub number : ℕ
-  pub links : List (Option Link)
+  pub pairs : List (Option RingPair)
 
 -- the ring to a peer, with its room, and the ring from it
 pub record Way : Type 0 where
@@ -15,10 +15,10 @@ pub record Way : Type 0 where
   pub room : ℕ
   pub from : Ring
 
-abbrev pub way_of : Link → Way
+abbrev pub way_of : RingPair → Way
 way_of l = record { to = l.to.ring; room = l.to.room; from = l.from.ring }
 
-abbrev pub way_at : Option Link → Option Way
+abbrev pub way_at : Option RingPair → Option Way
 way_at None = None
 way_at (Some l) = Some (way_of l)
 
@@ -28,7 +28,7 @@ pub record Place : Type 0 where
   pub ways : List (Option Way)
 
 abbrev pub place : Account → Place
-place a = record { number = a.number; ways = map way_at a.links }
+place a = record { number = a.number; ways = map way_at a.pairs }
 
 -- how many participants the mesh has
 abbrev pub size : Place → ℕ
@@ -63,4 +63,4 @@ pub record AreOfOneMesh (a b : Place) : Type 0 where
 -- the places of all participants of one mesh, in number order
 pub record IsMesh (ps : List Place) : Type 0 where
   pub placed : (i : ℕ) (a : Place) → slice_get ps i ≡ Some a → (a.number ≡ i) × (size a ≡ length ps)
-  pub linked : (i j : ℕ) (a b : Place) → i ≢ j → slice_get ps i ≡ Some a → slice_get ps j ≡ Some b → AreOfOneMesh a b
+  pub joined : (i j : ℕ) (a b : Place) → i ≢ j → slice_get ps i ≡ Some a → slice_get ps j ≡ Some b → AreOfOneMesh a b

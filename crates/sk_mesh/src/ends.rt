@@ -1,6 +1,6 @@
 //! A participant's ends of all its rings.
 
-use crate::link::{Link, look, pop_from, push_to};
+use crate::ring_pair::{RingPair, look, pop_from, push_to};
 use sk_base::WantOfMemory;
 use sk_msg::Message;
 use std::alloc::Global;
@@ -14,7 +14,7 @@ use std::marker::Model;
 pub struct Ends {
     number: u32,
     /// In number order, with none at the own number.
-    links: Vec<Option<Link>>,
+    pairs: Vec<Option<RingPair>>,
 }
 
 impl Model for Ends {
@@ -22,7 +22,7 @@ impl Model for Ends {
 
     ghost Value = { Account };
 
-    ghost view = { λ e. record { number = e.number; links = e.links.items } };
+    ghost view = { λ e. record { number = e.number; pairs = e.pairs.items } };
 }
 
 impl Ends {
@@ -35,11 +35,11 @@ impl Ends {
 
     /// The ends of a participant that has no peer yet.
     pub(crate) fn alone(alloc: Global, number: u32) -> Ends
-        ensures { result ≡ record { number = number; links = [] } }
+        ensures { result ≡ record { number = number; pairs = [] } }
     {
         Ends {
             number,
-            links: Vec::new(alloc),
+            pairs: Vec::new(alloc),
         }
     }
 
@@ -52,17 +52,17 @@ impl Ends {
     ) -> Result<(), WantOfMemory>
         ensures { OnOk result (Meet capacity self.old self.new newcomer.old newcomer.new) }
     {
-        let (near, far) = Link::pair(alloc, capacity)?;
-        self.links.push(Some(near))?;
-        newcomer.links.push(Some(far))?;
+        let (near, far) = RingPair::two_sides(alloc, capacity)?;
+        self.pairs.push(Some(near))?;
+        newcomer.pairs.push(Some(far))?;
         Ok(())
     }
 
-    /// Leaves the place of its own number, the next one, without a link.
+    /// Leaves the place of its own number, the next one, empty.
     pub(crate) fn skip_itself(&mut self) -> Result<(), WantOfMemory>
-        ensures { OnOk result (self.new ≡ record self.old { links = self.old.links ++ None ∷ [] }) }
+        ensures { OnOk result (self.new ≡ record self.old { pairs = self.old.pairs ++ None ∷ [] }) }
     {
-        self.links.push(None)?;
+        self.pairs.push(None)?;
         Ok(())
     }
 
@@ -77,7 +77,7 @@ impl Ends {
     pub fn size(&self) -> usize
         ensures { result ≡ size (place self.now) }
     {
-        self.links.len()
+        self.pairs.len()
     }
 
     /// Pushes a message to the ring to this peer, another one of the mesh. Where no slot is known
@@ -86,10 +86,13 @@ impl Ends {
         requires { IsPeer (place self.old) peer }
         ensures only { OnlyPushes self.old self.new peer }
         ensures ok { OnOk result (pushed self.new peer ≡ pushed self.old peer ++ message ∷ []) }
-        ensures full { IfErr result (λ back. (back ≡ message) × (pushed self.new peer ≡ pushed self.old peer) × (free self.old peer ≡ 0) × (free self.new peer ≡ 0)) }
-        ensures known { 0 < free self.old peer → IsOk result × (free self.old peer ≡ free self.new peer + 1) }
+        ensures full { IfErr result (λ back. (back ≡ message)
+            × (pushed self.new peer ≡ pushed self.old peer)
+            × (free self.old peer ≡ 0) × (free self.new peer ≡ 0)) }
+        ensures known { 0 < free self.old peer →
+            IsOk result × (free self.old peer ≡ free self.new peer + 1) }
     {
-        push_to(&mut self.links[peer as usize], message)
+        push_to(&mut self.pairs[peer as usize], message)
     }
 
     /// Pops the oldest message from the ring of this peer, another one of the mesh. Where none is
@@ -97,11 +100,15 @@ impl Ends {
     pub fn pop(&mut self, peer: u32) -> Option<Message>
         requires { IsPeer (place self.old) peer }
         ensures only { OnlyPops self.old self.new peer }
-        ensures some { IfSome result (λ message. popped self.new peer ≡ popped self.old peer ++ message ∷ []) }
-        ensures none { IfNone result ((popped self.new peer ≡ popped self.old peer) × (waiting self.old peer ≡ []) × (waiting self.new peer ≡ [])) }
-        ensures known { (first : Content) (rest : List Content) → waiting self.old peer ≡ first ∷ rest → (result ≡ Some first) × (waiting self.new peer ≡ rest) }
+        ensures some { IfSome result (λ message.
+            popped self.new peer ≡ popped self.old peer ++ message ∷ []) }
+        ensures none { IfNone result ((popped self.new peer ≡ popped self.old peer)
+            × (waiting self.old peer ≡ []) × (waiting self.new peer ≡ [])) }
+        ensures known { (first : Content) (rest : List Content) →
+            waiting self.old peer ≡ first ∷ rest →
+            (result ≡ Some first) × (waiting self.new peer ≡ rest) }
     {
-        pop_from(&mut self.links[peer as usize])
+        pop_from(&mut self.pairs[peer as usize])
     }
 
     /// Looks at the two rings between two participants of one mesh from both sides: all that was
@@ -110,12 +117,13 @@ impl Ends {
         requires { AreOfOneMesh (place self.old) (place other.old) }
         ensures mine { Looks self.old self.new other.old.number }
         ensures theirs { Looks other.old other.new self.old.number }
-        ensures in_order { IsPrefix (popped other.new self.old.number) (pushed self.new other.old.number) × IsPrefix (popped self.new other.old.number) (pushed other.new self.old.number) }
+        ensures in_order { IsPrefix (popped other.new self.old.number) (pushed self.new other.old.number)
+            × IsPrefix (popped self.new other.old.number) (pushed other.new self.old.number) }
         ensures agrees { Agrees self.old other.old × Agrees other.old self.old }
         ensures knows { Knows self.new other.new × Knows other.new self.new }
     {
         let here = self.number as usize;
         let there = other.number as usize;
-        look(&mut self.links[there], &mut other.links[here]);
+        look(&mut self.pairs[there], &mut other.pairs[here]);
     }
 }

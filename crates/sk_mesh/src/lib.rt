@@ -21,10 +21,10 @@
 
 mod ends;
 mod inlet;
-mod link;
 mod making;
 pub mod one_hand;
 mod outlet;
+mod ring_pair;
 #[cfg(test)]
 mod tests;
 

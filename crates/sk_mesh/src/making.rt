@@ -10,7 +10,8 @@ use sk_base::WantOfMemory;
 use std::alloc::Global;
 
 /// The ends of 1 to 32 participants in number order, with a ring for each ordered pair of them that
-/// has room for 1 to 1,024 messages.
+/// has room for 1 to 1,024 messages. The bounds are `MOST_PARTICIPANTS` and `MOST_RING_SLOTS` of
+/// [`sk_base::limits`].
 pub fn mesh(alloc: Global, n: u32, capacity: usize) -> Result<Vec<Ends>, WantOfMemory>
     requires least { 1 ≤ n }
     requires most { n ≤ 32 }

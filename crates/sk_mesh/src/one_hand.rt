@@ -15,8 +15,10 @@ use sk_msg::Message;
 pub fn push_beside(mine: &mut Ends, other: &mut Ends, message: Message) -> Result<(), Message>
     requires { AreOfOneMesh (place mine.old) (place other.old) }
     ensures exact { IsErr result ↔ IsFull mine.old other.old }
-    ensures ok { OnOk result (pushed mine.new other.old.number ≡ pushed mine.old other.old.number ++ message ∷ []) }
-    ensures full { IfErr result (λ back. (back ≡ message) × (pushed mine.new other.old.number ≡ pushed mine.old other.old.number)) }
+    ensures ok { OnOk result
+        (pushed mine.new other.old.number ≡ pushed mine.old other.old.number ++ message ∷ []) }
+    ensures full { IfErr result (λ back. (back ≡ message)
+        × (pushed mine.new other.old.number ≡ pushed mine.old other.old.number)) }
     ensures mine { PushesAlone mine.old mine.new other.old.number }
     ensures other { SameHistory other.old other.new }
     ensures knows { Knows mine.new other.new × Knows other.new mine.new }
@@ -32,8 +34,10 @@ pub fn push_beside(mine: &mut Ends, other: &mut Ends, message: Message) -> Resul
 pub fn pop_beside(mine: &mut Ends, other: &mut Ends) -> Option<Message>
     requires { AreOfOneMesh (place mine.old) (place other.old) }
     ensures exact { IsNone result ↔ IsEmpty other.old mine.old }
-    ensures some { IfSome result (λ message. popped mine.new other.old.number ≡ popped mine.old other.old.number ++ message ∷ []) }
-    ensures none { IfNone result (popped mine.new other.old.number ≡ popped mine.old other.old.number) }
+    ensures some { IfSome result (λ message.
+        popped mine.new other.old.number ≡ popped mine.old other.old.number ++ message ∷ []) }
+    ensures none { IfNone result
+        (popped mine.new other.old.number ≡ popped mine.old other.old.number) }
     ensures mine { PopsAlone mine.old mine.new other.old.number }
     ensures other { SameHistory other.old other.new }
     ensures knows { Knows mine.new other.new × Knows other.new mine.new }

@@ -1,4 +1,3 @@
 pub mod StateLaws
-pub mod EdgeLaws
 pub mod LabelLaws
 pub mod MessageLaws

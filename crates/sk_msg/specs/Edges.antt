@@ -14,9 +14,11 @@ pub record Edge : Type 0 where
   pub command : Option Command
   pub to : State
 
+-- an edge that no command asks for
 abbrev pub free : State → State → Edge
 free from to = record { from = from; command = None; to = to }
 
+-- an edge that this command asks for
 abbrev pub asked : State → Command → State → Edge
 asked from command to = record { from = from; command = Some command; to = to }
 
@@ -55,6 +57,7 @@ edges =
     ∷ free Aborting Shutdown
     ∷ []
 
+-- the commands are the same
 abbrev pub is_command : Command → Command → Bool
 is_command Pause Pause = true
 is_command Continue Continue = true
@@ -63,6 +66,7 @@ is_command ReportError ReportError = true
 is_command Abort Abort = true
 is_command _ _ = false
 
+-- this command asks for the edge
 abbrev pub is_asked_by : Command → Option Command → Bool
 is_asked_by command None = false
 is_asked_by command (Some other) = is_command command other

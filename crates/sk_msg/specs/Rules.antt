@@ -7,6 +7,7 @@ use Rattle.sk_msg.specs.Each.{any, each_after}
 use Rattle.sk_msg.specs.Specs.{is_new_key, is_label_count}
 use Rattle.sk_msg.specs.declared.content.Content.{Content}
 use Rattle.sk_msg.specs.declared.content.Content.TheVariants.{Hello, Leave, NextStep, ServiceAdd, ServicesEnd, Status, Workflow, Abort, Can, Eth, Lin, LinResponse, Publish, Call, Reply, Refuse}
+use Rattle.sk_msg.specs.declared.head.Head.{Head}
 use Rattle.sk_msg.specs.declared.label.Label.{Label}
 use Rattle.sk_msg.specs.declared.bus.LinChecksum.{LinChecksum}
 use Rattle.sk_msg.specs.declared.bus.LinChecksum.TheVariants as checksums
@@ -29,10 +30,15 @@ is_u32 n = nat_lt n (2 ^ 32)
 unfoldable pub is_mark : ℕ → Bool
 is_mark mark = nat_le mark (2 ^ 63)
 
+-- what stands in front of all that goes from service to service
+unfoldable pub is_head : Head → Bool
+is_head head = is_u32 head.service && (is_time head.stamp && is_mark head.mark)
+
 -- 1 to 2^63
 unfoldable pub is_call : ℕ → Bool
 is_call call = nat_le 1 call && nat_le call (2 ^ 63)
 
+-- at most 63
 unfoldable pub is_service_id : ℕ → Bool
 is_service_id id = nat_le id 63
 
@@ -48,6 +54,7 @@ IsNamed label = IsTrue (is_name label.key) × IsTrue (is_text label.value)
 unfoldable pub is_told : State → Bool
 is_told state = not (state_number state == 0)
 
+-- 1 to 32
 unfoldable pub is_required_count : ℕ → Bool
 is_required_count n = nat_le 1 n && nat_le n 32
 
@@ -55,6 +62,7 @@ is_required_count n = nat_le 1 n && nat_le n 32
 unfoldable pub is_new_name : List (List ℕ) → List ℕ → Bool
 is_new_name names name = not (list_any (λ other. bytes_eq other name) names)
 
+-- a name that is new behind these
 abbrev pub is_next_name : List (List ℕ) → List ℕ → Bool
 is_next_name before name = is_name name && is_new_name before name
 
@@ -64,12 +72,15 @@ is_can_frame id extended fd bytes =
     nat_lt id (if extended then 2 ^ 29 else 2 ^ 11)
     && (nat_le (length bytes) 8 || (fd && list_any (λ n. n == length bytes) (12 ∷ 16 ∷ 20 ∷ 24 ∷ 32 ∷ 48 ∷ 64 ∷ [])))
 
+-- 60 to 1,518 bytes
 unfoldable pub is_eth_frame : List ℕ → Bool
 is_eth_frame bytes = nat_le 60 (length bytes) && nat_le (length bytes) 1518
 
+-- at most 63
 unfoldable pub is_lin_id : ℕ → Bool
 is_lin_id id = nat_le id 63
 
+-- it isn't known how the checksum is made
 abbrev pub is_unknown : LinChecksum → Bool
 is_unknown checksums.Unknown = true
 is_unknown checksums.Classic = false
@@ -105,20 +116,17 @@ is_message ServicesEnd = true
 is_message (Status state until) = (any state && is_told state) && is_time until
 is_message (Workflow required) = is_required_count (length required) && each_after is_next_name [] required
 is_message Abort = true
-is_message (Can service stamp mark f) =
-    is_u32 service && (is_time stamp && (is_mark mark
-    && (is_u32 f.id && (any f.extended && (is_payload f.payload && is_can_frame f.id f.extended f.fd f.payload)))))
-is_message (Eth service stamp mark bytes) =
-    is_u32 service && (is_time stamp && (is_mark mark && (is_payload bytes && is_eth_frame bytes)))
-is_message (Lin service stamp mark f) =
-    is_u32 service && (is_time stamp && (is_mark mark
-    && (is_lin_id f.id && (any f.checksum && (any f.status && (is_payload f.payload && is_lin_payload (is_received f.status) f.checksum f.payload))))))
-is_message (LinResponse service stamp mark r) =
-    is_u32 service && (is_time stamp && (is_mark mark
-    && (is_lin_id r.id && (any r.mode && (any r.checksum && (is_payload r.payload && is_lin_payload (is_sent r.mode) r.checksum r.payload))))))
-is_message (Publish service stamp mark bytes) = is_u32 service && (is_time stamp && (is_mark mark && is_payload bytes))
-is_message (Call service stamp mark call bytes) =
-    is_u32 service && (is_time stamp && (is_mark mark && (is_call call && is_payload bytes)))
-is_message (Reply service stamp mark client call bytes) =
-    is_u32 service && (is_time stamp && (is_mark mark && (is_u32 client && (is_call call && is_payload bytes))))
+is_message (Can head f) =
+    is_head head
+    && (is_u32 f.id && (any f.extended && (is_payload f.payload && is_can_frame f.id f.extended f.fd f.payload)))
+is_message (Eth head bytes) = is_head head && (is_payload bytes && is_eth_frame bytes)
+is_message (Lin head f) =
+    is_head head
+    && (is_lin_id f.id && (any f.checksum && (any f.status && (is_payload f.payload && is_lin_payload (is_received f.status) f.checksum f.payload))))
+is_message (LinResponse head r) =
+    is_head head
+    && (is_lin_id r.id && (any r.mode && (any r.checksum && (is_payload r.payload && is_lin_payload (is_sent r.mode) r.checksum r.payload))))
+is_message (Publish head bytes) = is_head head && is_payload bytes
+is_message (Call head call bytes) = is_head head && (is_call call && is_payload bytes)
+is_message (Reply head client call bytes) = is_head head && (is_u32 client && (is_call call && is_payload bytes))
 is_message (Refuse reason) = any reason

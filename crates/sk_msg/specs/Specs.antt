@@ -8,6 +8,7 @@ use Rattle.sk_msg.specs.declared.label.Label.{Label}
 use Rattle.sk_msg.specs.declared.spec.SpecFault.{SpecFault}
 use Rattle.sk_msg.specs.declared.spec.SpecFault.TheVariants.{TooMany, DoubleKey}
 
+-- a specification as contracts see it
 pub record SpecValue : Type 0 where
   pub topic : List ℕ
   pub media : List ℕ
@@ -17,9 +18,11 @@ pub record SpecValue : Type 0 where
 unfoldable pub is_new_key : List Label → List ℕ → Bool
 is_new_key labels key = not (list_any (λ label. bytes_eq label.key key) labels)
 
+-- a label whose key is new behind these
 abbrev pub is_newly_keyed : List Label → Label → Bool
 is_newly_keyed before label = is_new_key before label.key
 
+-- at most 16
 unfoldable pub is_label_count : ℕ → Bool
 is_label_count n = nat_le n 16
 

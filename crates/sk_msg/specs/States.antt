@@ -6,6 +6,7 @@ use Rattle.sk_msg.specs.declared.state.State.TheVariants.{Invalid, ServicesCreat
 
 -- ## Numbers
 
+-- the number by which a state goes
 abbrev pub state_number : State → ℕ
 state_number Invalid = 0
 state_number ServicesCreated = 10
@@ -21,6 +22,7 @@ state_number ShuttingDown = 100
 state_number Shutdown = 110
 state_number Aborting = 120
 
+-- the state of a number; none of any other number
 abbrev pub state_of : ℕ → Option State
 state_of n =
     if n == 0 then Some Invalid else
@@ -37,11 +39,13 @@ state_of n =
     if n == 110 then Some Shutdown else
     if n == 120 then Some Aborting else None
 
+-- the states are the same
 unfoldable pub is_state : State → State → Bool
 is_state a b = state_number a == state_number b
 
 -- ## The chain
 
+-- the states in the order in which a participant without a fault goes through them
 abbrev pub chain : List State
 chain =
     ServicesCreated ∷ CommunicationInitializing ∷ CommunicationInitialized ∷ ReadyToRun ∷ Running ∷ Stopping ∷ Stopped ∷ ShuttingDown ∷ Shutdown ∷ []

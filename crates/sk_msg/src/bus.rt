@@ -54,6 +54,15 @@ pub enum LinMode {
     TxUnconditional,
 }
 
+/// What a LIN controller is on its bus.
+#[derive(Clone, Copy, Debug, PartialEq, Eq)]
+pub enum LinRole {
+    /// It sends the headers.
+    Master,
+    /// It only answers headers.
+    Slave,
+}
+
 /// A LIN frame as it was on the bus.
 #[derive(Debug, Drop)]
 pub struct LinFrame {

@@ -2,6 +2,7 @@
 
 use crate::announced::Announced;
 use crate::bus::{CanFrame, LinFrame, LinResponse};
+use crate::head::Head;
 use crate::names::Names;
 use crate::reason::RefuseReason;
 use crate::role::Role;
@@ -10,9 +11,8 @@ use sk_base::{Bytes, Name, SimTime, Text};
 
 /// What a message says, before its rules are looked at.
 ///
-/// What goes from service to service has the same three fields in front: the number of the sender's
-/// own service, the stamp and the mark. The stamp is the virtual time at which it was sent, in ns;
-/// the mark is the number of the step that sent it, 0 outside of steps, at most 2^63.
+/// What goes from service to service has a [`Head`] in front: which service of the sender it comes
+/// from, when it was sent, and in which step.
 #[derive(Debug, Drop)]
 pub enum Content {
     /// Who speaks. It comes first on a link.
@@ -58,49 +58,37 @@ pub enum Content {
     Abort,
     /// A CAN frame that the sender's controller sends.
     Can {
-        service: u32,
-        stamp: SimTime,
-        mark: u64,
+        head: Head,
         /// Its identifier and its bytes fit its format.
         frame: CanFrame,
     },
     /// An Ethernet frame that the sender's controller sends.
     Eth {
-        service: u32,
-        stamp: SimTime,
-        mark: u64,
+        head: Head,
         /// The frame, 60 to 1,518 bytes.
         payload: Bytes,
     },
     /// A LIN frame as it was on the bus.
     Lin {
-        service: u32,
-        stamp: SimTime,
-        mark: u64,
+        head: Head,
         /// Its identifier is 0 to 63.
         frame: LinFrame,
     },
     /// How the sender's LIN controller answers a header from now on.
     LinResponse {
-        service: u32,
-        stamp: SimTime,
-        mark: u64,
+        head: Head,
         /// Its identifier is 0 to 63.
         response: LinResponse,
     },
     /// What the sender's publisher publishes.
     Publish {
-        service: u32,
-        stamp: SimTime,
-        mark: u64,
+        head: Head,
         /// 0 to 4,096 bytes.
         payload: Bytes,
     },
     /// A call that the sender's client makes.
     Call {
-        service: u32,
-        stamp: SimTime,
-        mark: u64,
+        head: Head,
         /// The call's number at its client, 1 to 2^63.
         call: u64,
         /// The arguments, 0 to 4,096 bytes.
@@ -108,9 +96,7 @@ pub enum Content {
     },
     /// What the sender's server answers to a call.
     Reply {
-        service: u32,
-        stamp: SimTime,
-        mark: u64,
+        head: Head,
         /// The number of the service that made the call, at its participant.
         client: u32,
         /// The call's number at its client, 1 to 2^63.

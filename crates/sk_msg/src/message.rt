@@ -10,6 +10,7 @@ ghost use Rattle.sk_msg.specs.declared.content.Content.TheVariants as contents;
 use crate::announced::Announced;
 use crate::bus::{CanFrame, LinFrame, LinResponse};
 use crate::content::Content;
+use crate::head::Head;
 use crate::label::Label;
 use crate::names::Names;
 use crate::reason::RefuseReason;
@@ -151,156 +152,115 @@ impl Message {
         }
     }
 
-    /// A CAN frame from this service of the sender. The stamp is when it was sent, in ns of virtual
-    /// time; the mark is at most 2^63. The identifier is below 2^11, or below 2^29 where it is
-    /// extended; there are 0 to 8 bytes, and of CAN FD also 12, 16, 20, 24, 32, 48 or 64.
-    #[tactic(auto, using(crate::proofs::MessageLaws::rules), unfolding(crate::specs::Rules::is_message, crate::specs::Rules::is_u32))]
-    pub fn can(service: u32, stamp: SimTime, mark: u64, frame: CanFrame) -> Message
-        requires mark { IsTrue (is_mark mark) }
+    /// A CAN frame of the sender's controller. The mark is at most 2^63. The identifier is below
+    /// 2^11, or below 2^29 where it is extended; there are 0 to 8 bytes, and of CAN FD also 12, 16,
+    /// 20, 24, 32, 48 or 64.
+    #[tactic(auto, using(crate::proofs::MessageLaws::rules), unfolding(crate::specs::Rules::is_message, crate::specs::Rules::is_head, crate::specs::Rules::is_u32))]
+    pub fn can(head: Head, frame: CanFrame) -> Message
+        requires mark { IsTrue (is_mark head.mark) }
         requires frame { IsTrue (is_can_frame frame.id frame.extended frame.fd frame.payload) }
-        ensures { result ≡ Can service stamp mark frame }
+        ensures { result ≡ Can head frame }
     {
-        let _ns = stamp.ns();
+        let _ns = head.stamp.ns();
         let _payload = frame.payload.as_slice();
         Message {
-            content: Content::Can {
-                service,
-                stamp,
-                mark,
-                frame,
-            },
+            content: Content::Can { head, frame },
         }
     }
 
-    /// An Ethernet frame of 60 to 1,518 bytes from this service of the sender. The stamp is when it
-    /// was sent, in ns of virtual time; the mark is at most 2^63.
-    #[tactic(auto, using(crate::proofs::MessageLaws::rules), unfolding(crate::specs::Rules::is_message, crate::specs::Rules::is_u32))]
-    pub fn eth(service: u32, stamp: SimTime, mark: u64, payload: Bytes) -> Message
-        requires mark { IsTrue (is_mark mark) }
+    /// An Ethernet frame of 60 to 1,518 bytes of the sender's controller. The mark is at most 2^63.
+    #[tactic(auto, using(crate::proofs::MessageLaws::rules), unfolding(crate::specs::Rules::is_message, crate::specs::Rules::is_head, crate::specs::Rules::is_u32))]
+    pub fn eth(head: Head, payload: Bytes) -> Message
+        requires mark { IsTrue (is_mark head.mark) }
         requires frame { IsTrue (is_eth_frame payload) }
-        ensures { result ≡ Eth service stamp mark payload }
+        ensures { result ≡ Eth head payload }
     {
-        let _ns = stamp.ns();
+        let _ns = head.stamp.ns();
         let _payload = payload.as_slice();
         Message {
-            content: Content::Eth {
-                service,
-                stamp,
-                mark,
-                payload,
-            },
+            content: Content::Eth { head, payload },
         }
     }
 
-    /// A LIN frame, told by this service of the sender. The stamp is when it was sent, in ns of
-    /// virtual time; the mark is at most 2^63. The identifier is at most 63; there are at most 8
-    /// bytes, and with a status other than RxOk none, and the checksum is Unknown.
-    #[tactic(auto, using(crate::proofs::MessageLaws::rules), unfolding(crate::specs::Rules::is_message, crate::specs::Rules::is_u32))]
-    pub fn lin(service: u32, stamp: SimTime, mark: u64, frame: LinFrame) -> Message
-        requires mark { IsTrue (is_mark mark) }
+    /// A LIN frame, told by the sender's controller. The mark is at most 2^63. The identifier is at
+    /// most 63; there are at most 8 bytes, and with a status other than RxOk none, and the checksum
+    /// is Unknown.
+    #[tactic(auto, using(crate::proofs::MessageLaws::rules), unfolding(crate::specs::Rules::is_message, crate::specs::Rules::is_head, crate::specs::Rules::is_u32))]
+    pub fn lin(head: Head, frame: LinFrame) -> Message
+        requires mark { IsTrue (is_mark head.mark) }
         requires id { IsTrue (is_lin_id frame.id) }
         requires payload { IsTrue (is_lin_payload (is_received frame.status) frame.checksum frame.payload) }
-        ensures { result ≡ Lin service stamp mark frame }
+        ensures { result ≡ Lin head frame }
     {
-        let _ns = stamp.ns();
+        let _ns = head.stamp.ns();
         let _payload = frame.payload.as_slice();
         Message {
-            content: Content::Lin {
-                service,
-                stamp,
-                mark,
-                frame,
-            },
+            content: Content::Lin { head, frame },
         }
     }
 
-    /// How this LIN service of the sender answers a header from now on. The stamp is when it was
-    /// sent, in ns of virtual time; the mark is at most 2^63. The identifier is at most 63; there
-    /// are at most 8 bytes, and with a mode other than TxUnconditional none, and the checksum is
-    /// Unknown.
-    #[tactic(auto, using(crate::proofs::MessageLaws::rules), unfolding(crate::specs::Rules::is_message, crate::specs::Rules::is_u32))]
-    pub fn lin_response(service: u32, stamp: SimTime, mark: u64, response: LinResponse) -> Message
-        requires mark { IsTrue (is_mark mark) }
+    /// How the sender's LIN controller answers a header from now on. The mark is at most 2^63. The
+    /// identifier is at most 63; there are at most 8 bytes, and with a mode other than
+    /// TxUnconditional none, and the checksum is Unknown.
+    #[tactic(auto, using(crate::proofs::MessageLaws::rules), unfolding(crate::specs::Rules::is_message, crate::specs::Rules::is_head, crate::specs::Rules::is_u32))]
+    pub fn lin_response(head: Head, response: LinResponse) -> Message
+        requires mark { IsTrue (is_mark head.mark) }
         requires id { IsTrue (is_lin_id response.id) }
         requires payload { IsTrue (is_lin_payload (is_sent response.mode) response.checksum response.payload) }
-        ensures { result ≡ contents.LinResponse service stamp mark response }
+        ensures { result ≡ contents.LinResponse head response }
     {
-        let _ns = stamp.ns();
+        let _ns = head.stamp.ns();
         let _payload = response.payload.as_slice();
         Message {
-            content: Content::LinResponse {
-                service,
-                stamp,
-                mark,
-                response,
-            },
+            content: Content::LinResponse { head, response },
         }
     }
 
-    /// A publication of this service of the sender, 0 to 4,096 bytes. The stamp is when it was
-    /// sent, in ns of virtual time; the mark is at most 2^63.
-    #[tactic(auto, using(crate::proofs::MessageLaws::rules), unfolding(crate::specs::Rules::is_message, crate::specs::Rules::is_u32))]
-    pub fn publish(service: u32, stamp: SimTime, mark: u64, payload: Bytes) -> Message
-        requires mark { IsTrue (is_mark mark) }
-        ensures { result ≡ Publish service stamp mark payload }
+    /// What the sender's publisher publishes, 0 to 4,096 bytes. The mark is at most 2^63.
+    #[tactic(auto, using(crate::proofs::MessageLaws::rules), unfolding(crate::specs::Rules::is_message, crate::specs::Rules::is_head, crate::specs::Rules::is_u32))]
+    pub fn publish(head: Head, payload: Bytes) -> Message
+        requires mark { IsTrue (is_mark head.mark) }
+        ensures { result ≡ Publish head payload }
     {
-        let _ns = stamp.ns();
+        let _ns = head.stamp.ns();
         let _payload = payload.as_slice();
         Message {
-            content: Content::Publish {
-                service,
-                stamp,
-                mark,
-                payload,
-            },
+            content: Content::Publish { head, payload },
         }
     }
 
-    /// A call that this service of the sender makes, with 0 to 4,096 bytes. The stamp is when it
-    /// was sent, in ns of virtual time; the mark is at most 2^63; the number of the call is 1 to
-    /// 2^63.
-    #[tactic(auto, using(crate::proofs::MessageLaws::rules), unfolding(crate::specs::Rules::is_message, crate::specs::Rules::is_u32))]
-    pub fn call(service: u32, stamp: SimTime, mark: u64, call: u64, payload: Bytes) -> Message
-        requires mark { IsTrue (is_mark mark) }
+    /// A call that the sender's client makes, with 0 to 4,096 bytes. The mark is at most 2^63, and
+    /// the number of the call 1 to 2^63.
+    #[tactic(auto, using(crate::proofs::MessageLaws::rules), unfolding(crate::specs::Rules::is_message, crate::specs::Rules::is_head, crate::specs::Rules::is_u32))]
+    pub fn call(head: Head, call: u64, payload: Bytes) -> Message
+        requires mark { IsTrue (is_mark head.mark) }
         requires call { IsTrue (is_call call) }
-        ensures { result ≡ Call service stamp mark call payload }
+        ensures { result ≡ Call head call payload }
     {
-        let _ns = stamp.ns();
+        let _ns = head.stamp.ns();
         let _payload = payload.as_slice();
         Message {
             content: Content::Call {
-                service,
-                stamp,
-                mark,
+                head,
                 call,
                 payload,
             },
         }
     }
 
-    /// What this service of the sender answers, 0 to 4,096 bytes, to the call of that number, 1 to
-    /// 2^63, which the service `client` made. The stamp is when it was sent, in ns of virtual time;
-    /// the mark is at most 2^63.
-    #[tactic(auto, using(crate::proofs::MessageLaws::rules), unfolding(crate::specs::Rules::is_message, crate::specs::Rules::is_u32))]
-    pub fn reply(
-        service: u32,
-        stamp: SimTime,
-        mark: u64,
-        client: u32,
-        call: u64,
-        payload: Bytes,
-    ) -> Message
-        requires mark { IsTrue (is_mark mark) }
+    /// What the sender's server answers, 0 to 4,096 bytes, to the call of that number, 1 to 2^63,
+    /// which the service `client` of its receiver made. The mark is at most 2^63.
+    #[tactic(auto, using(crate::proofs::MessageLaws::rules), unfolding(crate::specs::Rules::is_message, crate::specs::Rules::is_head, crate::specs::Rules::is_u32))]
+    pub fn reply(head: Head, client: u32, call: u64, payload: Bytes) -> Message
+        requires mark { IsTrue (is_mark head.mark) }
         requires call { IsTrue (is_call call) }
-        ensures { result ≡ Reply service stamp mark client call payload }
+        ensures { result ≡ Reply head client call payload }
     {
-        let _ns = stamp.ns();
+        let _ns = head.stamp.ns();
         let _payload = payload.as_slice();
         Message {
             content: Content::Reply {
-                service,
-                stamp,
-                mark,
+                head,
                 client,
                 call,
                 payload,
@@ -386,85 +346,42 @@ fn copy_content(alloc: Global, content: &Content) -> Result<Content, WantOfMemor
             required: required.copy(alloc)?,
         }),
         Content::Abort => Ok(Content::Abort),
-        Content::Can {
-            service,
-            stamp,
-            mark,
-            frame,
-        } => Ok(Content::Can {
-            service: *service,
-            stamp: *stamp,
-            mark: *mark,
+        Content::Can { head, frame } => Ok(Content::Can {
+            head: *head,
             frame: frame.copy(alloc)?,
         }),
-        Content::Eth {
-            service,
-            stamp,
-            mark,
-            payload,
-        } => Ok(Content::Eth {
-            service: *service,
-            stamp: *stamp,
-            mark: *mark,
+        Content::Eth { head, payload } => Ok(Content::Eth {
+            head: *head,
             payload: payload.copy(alloc)?,
         }),
-        Content::Lin {
-            service,
-            stamp,
-            mark,
-            frame,
-        } => Ok(Content::Lin {
-            service: *service,
-            stamp: *stamp,
-            mark: *mark,
+        Content::Lin { head, frame } => Ok(Content::Lin {
+            head: *head,
             frame: frame.copy(alloc)?,
         }),
-        Content::LinResponse {
-            service,
-            stamp,
-            mark,
-            response,
-        } => Ok(Content::LinResponse {
-            service: *service,
-            stamp: *stamp,
-            mark: *mark,
+        Content::LinResponse { head, response } => Ok(Content::LinResponse {
+            head: *head,
             response: response.copy(alloc)?,
         }),
-        Content::Publish {
-            service,
-            stamp,
-            mark,
-            payload,
-        } => Ok(Content::Publish {
-            service: *service,
-            stamp: *stamp,
-            mark: *mark,
+        Content::Publish { head, payload } => Ok(Content::Publish {
+            head: *head,
             payload: payload.copy(alloc)?,
         }),
         Content::Call {
-            service,
-            stamp,
-            mark,
+            head,
             call,
             payload,
         } => Ok(Content::Call {
-            service: *service,
-            stamp: *stamp,
-            mark: *mark,
+            head: *head,
             call: *call,
             payload: payload.copy(alloc)?,
         }),
         Content::Reply {
-            service,
-            stamp,
-            mark,
+            head,
             client,
             call,
             payload,
         } => Ok(Content::Reply {
-            service: *service,
-            stamp: *stamp,
-            mark: *mark,
+            head: *head,
             client: *client,
             call: *call,
             payload: payload.copy(alloc)?,

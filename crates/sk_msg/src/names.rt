@@ -1,6 +1,7 @@
 //! Names in order.
 
-ghost use Rattle.std.specs.Prelude.{◌≡◌, ℕ, List, IfOk};
+ghost use Rattle.std.specs.Prelude.{◌≡◌, ℕ, List, position, IfOk};
+ghost use Rattle.std.specs.Str.{bytes_eq};
 
 use sk_base::{Name, WantOfMemory};
 use std::alloc::Global;
@@ -31,6 +32,20 @@ impl Names {
         ensures { result.now ≡ self.now }
     {
         self.names.as_slice()
+    }
+
+    /// The names in order. Nothing is copied.
+    pub fn into_vec(self) -> Vec<Name>
+        ensures { result.items ≡ self }
+    {
+        self.names
+    }
+
+    /// The index of the first that is this name, or None where it isn't among them.
+    pub fn position(&self, name: &Name) -> Option<usize>
+        ensures { result ≡ position (λ other. bytes_eq other name.now) self.now }
+    {
+        self.names.iter().position(|other| other.is(name))
     }
 
     /// The same names again.

@@ -8,13 +8,9 @@ use crate::bus::{LinChecksum, LinMode, LinStatus};
 use crate::label::Label;
 use crate::state::State;
 use sk_base::Name;
-use sk_base::limits::LONGEST_STEP_NS;
-
-/// The highest number of a mark or of a call.
-const HIGHEST_NUMBER: u64 = 1 << 63;
-
-/// The most labels of a service.
-pub const MOST_LABELS: u8 = 16;
+use sk_base::limits::{
+    HIGHEST_NUMBER, LONGEST_STEP_NS, MOST_LABELS, MOST_PARTICIPANTS, MOST_SERVICES,
+};
 
 /// Whether a step may be so long: 1 to 2^60 nanoseconds of virtual time.
 #[tactic(auto, unfolding(crate::specs::Rules::is_step_size))]
@@ -45,7 +41,7 @@ pub fn is_call(call: u64) -> bool
 pub fn is_service_id(id: u32) -> bool
     ensures { result ≡ rules.is_service_id id }
 {
-    id <= 63
+    id < MOST_SERVICES
 }
 
 /// Whether a service may have so many labels: at most 16.
@@ -53,7 +49,7 @@ pub fn is_service_id(id: u32) -> bool
 pub fn is_label_count(count: u8) -> bool
     ensures { result ≡ specs.is_label_count count }
 {
-    count <= MOST_LABELS
+    count as usize <= MOST_LABELS
 }
 
 /// Whether the key stands in none of these labels.
@@ -62,7 +58,7 @@ pub fn is_new_key(labels: &[Label], key: &Name) -> bool
     ensures { result ≡ specs.is_new_key labels.now key.now }
 {
     for label in labels {
-        if label.key.as_str() == key.as_str() {
+        if label.key.is(key) {
             return false;
         }
     }
@@ -82,7 +78,7 @@ pub fn is_told(state: State) -> bool
 pub fn is_required_count(count: u8) -> bool
     ensures { result ≡ rules.is_required_count count }
 {
-    1 <= count && count <= 32
+    1 <= count && count as u32 <= MOST_PARTICIPANTS
 }
 
 /// Whether the name stands among none of these.
@@ -91,7 +87,7 @@ pub fn is_new_name(names: &[Name], name: &Name) -> bool
     ensures { result ≡ rules.is_new_name names.now name.now }
 {
     for other in names {
-        if other.as_str() == name.as_str() {
+        if other.is(name) {
             return false;
         }
     }

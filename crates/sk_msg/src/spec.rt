@@ -4,7 +4,8 @@ ghost use Rattle.std.specs.Prelude.{◌≡◌, [], Some, None, IsTrue, IfOk, Mat
 ghost use Rattle.sk_msg.specs.Specs.{are_labels, double_key, spec_fault};
 
 use crate::label::{Label, copy_labels};
-use crate::rules::{MOST_LABELS, is_new_key};
+use crate::rules::is_new_key;
+use sk_base::limits::MOST_LABELS;
 use sk_base::{Name, Text, WantOfMemory};
 use std::alloc::Global;
 use std::marker::Model;
@@ -107,7 +108,7 @@ fn fault_of(labels: &[Label]) -> Option<SpecFault>
     ensures value { result ≡ spec_fault labels.now }
     ensures fine { result ≡ None → IsTrue (are_labels labels.now) }
 {
-    if labels.len() > MOST_LABELS as usize {
+    if labels.len() > MOST_LABELS {
         return Some(SpecFault::TooMany(labels.len()));
     }
     match first_double(labels) {

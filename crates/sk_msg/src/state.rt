@@ -1,7 +1,10 @@
 //! The states of a participant.
 
-ghost use Rattle.std.specs.Prelude.{◌≡◌};
+ghost use Rattle.std.specs.Prelude.{◌≡◌, Some};
 ghost use Rattle.sk_msg.specs.States.{state_number, state_of, chain_place, has_reached};
+ghost use Rattle.sk_msg.specs.StateNames.{state_name};
+
+use std::fmt;
 
 /// What a participant is at, in the order of the numbers.
 #[derive(Clone, Copy, Debug, PartialEq, Eq)]
@@ -78,6 +81,28 @@ impl State {
         }
     }
 
+    /// What it is called in texts, as `ReadyToRun`.
+    #[tactic(auto, unfolding(crate::specs::StateNames::state_name))]
+    pub fn name(self) -> &'static str
+        ensures { result.now ≡ state_name self }
+    {
+        match self {
+            State::Invalid => "Invalid",
+            State::ServicesCreated => "ServicesCreated",
+            State::CommunicationInitializing => "CommunicationInitializing",
+            State::CommunicationInitialized => "CommunicationInitialized",
+            State::ReadyToRun => "ReadyToRun",
+            State::Running => "Running",
+            State::Paused => "Paused",
+            State::Stopping => "Stopping",
+            State::Stopped => "Stopped",
+            State::Error => "Error",
+            State::ShuttingDown => "ShuttingDown",
+            State::Shutdown => "Shutdown",
+            State::Aborting => "Aborting",
+        }
+    }
+
     /// Whether it stands in the chain at the other state or after it. Paused counts as Running;
     /// Invalid, Error and Aborting stand outside the chain: they have reached nothing, and nothing
     /// has reached them.
@@ -108,5 +133,14 @@ impl State {
             State::Shutdown => Some(8),
             State::Invalid | State::Error | State::Aborting => None,
         }
+    }
+}
+
+/// What it is called in texts.
+impl fmt::Display for State {
+    ghost output = { λ state. Some (state_name state) };
+
+    fn fmt<W: fmt::Write>(&self, f: &mut fmt::Formatter<W>) -> fmt::Result {
+        f.write_str(self.name())
     }
 }

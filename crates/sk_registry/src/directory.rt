@@ -8,15 +8,14 @@ ghost use Rattle.sk_registry.specs.Events.{Join, Leave, after};
 use crate::joined::Joined;
 use crate::refused::JoinRefused;
 use indexmap::IndexMap;
+use sk_base::limits::MOST_JOINED;
 use sk_base::{Name, Text, WantOfMemory};
 use sk_msg::Role;
 use std::alloc::Global;
 use std::marker::Model;
 
-/// How many may be joined at once: 32 participants and 4 tools.
-pub const MOST_JOINED: usize = 36;
-
-/// Who is joined. Contracts see them as a list, in order of joining.
+/// Who is joined, at most [`MOST_JOINED`] at once. Contracts see them as a list, in order of
+/// joining.
 #[derive(Debug, Drop)]
 pub struct Directory {
     alloc: Global,
@@ -64,15 +63,19 @@ impl Directory {
         address: Text,
     ) -> Result<Vec<Joined>, JoinRefused>
         ensures told { IfOk result (λ told. told.items ≡ self.old) }
-        ensures last { OnOk result (self.new ≡ self.old ++ record { name = name; role = role; address = address } ∷ []) }
+        ensures last { OnOk result
+            (self.new ≡ self.old ++ record { name = name; role = role; address = address } ∷ []) }
         ensures accepted { OnOk result (refusal self.old name ≡ None) }
 
         // A reason against it is the answer, and besides there is want of memory alone.
-        ensures refused { (reason : JoinRefused) → refusal self.old name ≡ Some reason → result ≡ Err reason }
-        ensures only { IfErr result (λ reason. (reason ≡ JoinRefused.WantOfMemory) ⊎ (refusal self.old name ≡ Some reason)) }
+        ensures refused { (reason : JoinRefused) →
+            refusal self.old name ≡ Some reason → result ≡ Err reason }
+        ensures only { IfErr result (λ reason.
+            (reason ≡ JoinRefused.WantOfMemory) ⊎ (refusal self.old name ≡ Some reason)) }
         ensures same { OnErr result (self.new ≡ self.old) }
 
-        ensures step { result ≢ Err JoinRefused.WantOfMemory → self.new ≡ after self.old (Join (record { name = name; role = role; address = address })) }
+        ensures step { result ≢ Err JoinRefused.WantOfMemory →
+            self.new ≡ after self.old (Join (record { name = name; role = role; address = address })) }
         ensures table { IsTable self.old × IsTable self.new }
     {
         if let Some(reason) = self.refusal(&name) {

@@ -11,7 +11,7 @@ use std::alloc::{AllocError, AllocFailed};
 pub enum JoinRefused {
     /// One of this name is joined.
     NameTaken,
-    /// As many are joined as may be, 36.
+    /// As many are joined as may be, 36: 32 participants and 4 tools.
     Full,
     /// It may join, and there was no memory for it.
     WantOfMemory,

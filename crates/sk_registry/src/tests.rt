@@ -9,7 +9,7 @@ use std::test::Fail;
 
 /// What happens, and what is answered.
 #[derive(Clone, Copy, Debug)]
-enum Event<'a> {
+enum Row<'a> {
     /// This name joins, and is told of these.
     Joins(&'a str, &'a [&'a str]),
     IsRefused(&'a str, JoinRefused),
@@ -37,19 +37,19 @@ fn assert_names(rt: &impl Abort, told: &[Joined], names: &[&str]) {
 fn play(
     rt: &(impl Abort + AllocGlobal),
     directory: &mut Directory,
-    events: &[Event],
+    events: &[Row],
 ) -> Result<(), Fail> {
     for event in events {
         match *event {
-            Event::Joins(name, names) => {
+            Row::Joins(name, names) => {
                 let told = join(rt.alloc(), directory, name)??;
                 assert_names(rt, &told, names);
             }
-            Event::IsRefused(name, reason) => match join(rt.alloc(), directory, name)? {
+            Row::IsRefused(name, reason) => match join(rt.alloc(), directory, name)? {
                 Err(refused) => assert_eq!(rt; refused, reason, "{name}"),
                 Ok(_) => return Err(Fail::new("no refusal")),
             },
-            Event::Leaves(name, was_joined) => {
+            Row::Leaves(name, was_joined) => {
                 let gone = Name::new(rt.alloc(), name)?;
                 assert_eq!(rt; directory.leave(&gone), was_joined, "{name}");
             }
@@ -66,11 +66,11 @@ fn a_name_is_taken_until_it_leaves(rt: HostRuntime) -> Result<(), Fail> {
         &rt,
         &mut directory,
         &[
-            Event::Joins("A", &[]),
-            Event::Joins("B", &["A"]),
-            Event::IsRefused("A", JoinRefused::NameTaken),
-            Event::Leaves("A", true),
-            Event::Joins("A", &["B"]),
+            Row::Joins("A", &[]),
+            Row::Joins("B", &["A"]),
+            Row::IsRefused("A", JoinRefused::NameTaken),
+            Row::Leaves("A", true),
+            Row::Joins("A", &["B"]),
         ],
     )?;
     assert!(rt; !directory.is_empty());
@@ -84,17 +84,17 @@ fn whoever_comes_back_goes_last(rt: HostRuntime) -> Result<(), Fail> {
         &rt,
         &mut directory,
         &[
-            Event::Leaves("A", false),
-            Event::Joins("A", &[]),
-            Event::Joins("B", &["A"]),
-            Event::Joins("C", &["A", "B"]),
-            Event::Joins("D", &["A", "B", "C"]),
-            Event::Leaves("B", true),
-            Event::Leaves("B", false),
-            Event::Leaves("E", false),
-            Event::Joins("B", &["A", "C", "D"]),
-            Event::Leaves("A", true),
-            Event::Joins("a", &["C", "D", "B"]),
+            Row::Leaves("A", false),
+            Row::Joins("A", &[]),
+            Row::Joins("B", &["A"]),
+            Row::Joins("C", &["A", "B"]),
+            Row::Joins("D", &["A", "B", "C"]),
+            Row::Leaves("B", true),
+            Row::Leaves("B", false),
+            Row::Leaves("E", false),
+            Row::Joins("B", &["A", "C", "D"]),
+            Row::Leaves("A", true),
+            Row::Joins("a", &["C", "D", "B"]),
         ],
     )
 }
@@ -112,11 +112,11 @@ fn the_thirty_seventh_name(rt: HostRuntime) -> Result<(), Fail> {
         &rt,
         &mut directory,
         &[
-            Event::IsRefused("N36", JoinRefused::Full),
-            Event::IsRefused("N35", JoinRefused::NameTaken),
-            Event::IsRefused("N0", JoinRefused::NameTaken),
-            Event::Leaves("N36", false),
-            Event::Leaves("N0", true),
+            Row::IsRefused("N36", JoinRefused::Full),
+            Row::IsRefused("N35", JoinRefused::NameTaken),
+            Row::IsRefused("N0", JoinRefused::NameTaken),
+            Row::Leaves("N36", false),
+            Row::Leaves("N0", true),
         ],
     )?;
     let told = join(alloc, &mut directory, "N36")??;
@@ -124,7 +124,7 @@ fn the_thirty_seventh_name(rt: HostRuntime) -> Result<(), Fail> {
     play(
         &rt,
         &mut directory,
-        &[Event::IsRefused("N0", JoinRefused::Full)],
+        &[Row::IsRefused("N0", JoinRefused::Full)],
     )
 }
 

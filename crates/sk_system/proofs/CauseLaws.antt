@@ -9,15 +9,15 @@ use Rattle.std.proofs.lemmas.List.{append-nil}
 use Rattle.sk_msg.specs.States.{is_state}
 use Rattle.sk_msg.specs.declared.state.State.{State}
 use Rattle.sk_msg.specs.declared.state.State.TheVariants.{Error, Invalid, Aborting}
-use Rattle.sk_system.specs.declared.roll.Ending.{Ending}
-use Rattle.sk_system.specs.declared.roll.Ending.TheVariants.{Left, Lost}
-use Rattle.sk_system.specs.declared.roll.Seen.{Seen}
+use Rattle.sk_system.specs.declared.table.Ending.{Ending}
+use Rattle.sk_system.specs.declared.table.Ending.TheVariants.{Left, Lost}
+use Rattle.sk_system.specs.declared.table.Seen.{Seen}
 use Rattle.sk_system.specs.Notice.{Notice, Tells, Leaves, LosesLink, Requires, Nothing}
-use Rattle.sk_system.specs.Roll.{seen_of, with_state, with_ending, is_gone, state_or_error}
-use Rattle.sk_system.specs.Controller.{Held, nothing_held, held_state, has_error, is_over, holding, held_after}
-use Rattle.sk_system.specs.History.{Event, state_in, ending_in, last_told, first_ending, held_after_all, until_end, tells, tells_aborting, tells_error, is_lost, fails}
+use Rattle.sk_system.specs.Table.{seen_of, with_state, with_ending, is_gone, state_or_error}
+use Rattle.sk_system.specs.Controller.{Controller, new_controller, controller_state, has_error, has_ended, noting, controller_after}
+use Rattle.sk_system.specs.History.{NamedNotice, state_in, ending_in, last_told, first_ending, controller_after_all, until_end, tells, tells_aborting, tells_error, is_lost, fails}
 use Rattle.sk_system.specs.System.{some_is}
-use Rattle.sk_system.proofs.HistoryLaws.{option_or-none, option_or-option_or, seen_of-change, gone-seen, either, seen_after, seen-state, seen-ending, step, step-names, step-error, no_error-start, over_stays}
+use Rattle.sk_system.proofs.HistoryLaws.{option_or-none, option_or-option_or, seen_of-change, gone-seen, either, seen_after, seen-state, seen-ending, step, step-names, step-error, no_error-start, end_stays}
 
 -- ## Of a history with one more notice
 
@@ -33,19 +33,19 @@ any-snoc test (y ∷ ys) x = ap (λ rest. test y || rest) (any-snoc test ys x) �
     or-or true b c = refl
     or-or false b c = refl
 
-last_told-snoc : (name : List ℕ) (events : List Event) (event : Event)
-    → last_told name (events ++ event ∷ []) ≡ option_or (cond (bytes_eq event.name name) (state_in event.notice) None) (last_told name events)
-last_told-snoc name [] event = sym (option_or-none (cond (bytes_eq event.name name) (state_in event.notice) None))
-last_told-snoc name (first ∷ events) event =
-    ap (λ state. option_or state (cond (bytes_eq first.name name) (state_in first.notice) None)) (last_told-snoc name events event)
-    ∙ option_or-option_or (cond (bytes_eq event.name name) (state_in event.notice) None) (last_told name events) _
+last_told-snoc : (name : List ℕ) (notices : List NamedNotice) (named : NamedNotice)
+    → last_told name (notices ++ named ∷ []) ≡ option_or (cond (bytes_eq named.name name) (state_in named.notice) None) (last_told name notices)
+last_told-snoc name [] named = sym (option_or-none (cond (bytes_eq named.name name) (state_in named.notice) None))
+last_told-snoc name (first ∷ notices) named =
+    ap (λ state. option_or state (cond (bytes_eq first.name name) (state_in first.notice) None)) (last_told-snoc name notices named)
+    ∙ option_or-option_or (cond (bytes_eq named.name name) (state_in named.notice) None) (last_told name notices) _
 
-first_ending-snoc : (name : List ℕ) (events : List Event) (event : Event)
-    → first_ending name (events ++ event ∷ []) ≡ option_or (first_ending name events) (cond (bytes_eq event.name name) (ending_in event.notice) None)
-first_ending-snoc name [] event = option_or-none (cond (bytes_eq event.name name) (ending_in event.notice) None)
-first_ending-snoc name (first ∷ events) event =
-    ap (λ ending. option_or (cond (bytes_eq first.name name) (ending_in first.notice) None) ending) (first_ending-snoc name events event)
-    ∙ sym (option_or-option_or (cond (bytes_eq first.name name) (ending_in first.notice) None) (first_ending name events) _)
+first_ending-snoc : (name : List ℕ) (notices : List NamedNotice) (named : NamedNotice)
+    → first_ending name (notices ++ named ∷ []) ≡ option_or (first_ending name notices) (cond (bytes_eq named.name name) (ending_in named.notice) None)
+first_ending-snoc name [] named = option_or-none (cond (bytes_eq named.name name) (ending_in named.notice) None)
+first_ending-snoc name (first ∷ notices) named =
+    ap (λ ending. option_or (cond (bytes_eq first.name name) (ending_in first.notice) None) ending) (first_ending-snoc name notices named)
+    ∙ sym (option_or-option_or (cond (bytes_eq first.name name) (ending_in first.notice) None) (first_ending name notices) _)
 
 -- ## Of one name
 
@@ -53,17 +53,17 @@ abbrev is_error : Option State → Bool
 is_error state = is_state Error (unwrap_or state Invalid)
 
 -- whoever's last state is Error has told it
-error_was_told : (name : List ℕ) (events : List Event) → is_error (last_told name events) ≡ true → tells_error name events ≡ true
+error_was_told : (name : List ℕ) (notices : List NamedNotice) → is_error (last_told name notices) ≡ true → tells_error name notices ≡ true
 unfolding is_state
 error_was_told name [] is = absurd cc
-error_was_told name (event ∷ events) is =
-    split (last_told name events) (bytes_eq event.name name) event.notice (error_was_told name events) is
+error_was_told name (named ∷ notices) is =
+    split (last_told name notices) (bytes_eq named.name name) named.notice (error_was_told name notices) is
   where
-    split : (later : Option State) (same : Bool) (notice : Notice) → (is_error later ≡ true → tells_error name events ≡ true)
-        → is_error (option_or later (cond same (state_in notice) None)) ≡ true → ((same && tells Error notice) || tells_error name events) ≡ true
-    split (Some state) same notice told is = or_right (same && tells Error notice) (tells_error name events) (told is)
+    split : (later : Option State) (same : Bool) (notice : Notice) → (is_error later ≡ true → tells_error name notices ≡ true)
+        → is_error (option_or later (cond same (state_in notice) None)) ≡ true → ((same && tells Error notice) || tells_error name notices) ≡ true
+    split (Some state) same notice told is = or_right (same && tells Error notice) (tells_error name notices) (told is)
     split None false notice told is = absurd cc
-    split None true (Tells state) told is = or_left (is_state Error state) (tells_error name events) is
+    split None true (Tells state) told is = or_left (is_state Error state) (tells_error name notices) is
     split None true Leaves told is = absurd cc
     split None true LosesLink told is = absurd cc
     split None true (Requires names) told is = absurd cc
@@ -122,12 +122,12 @@ failing state None told true Nothing was = stays told (is_error state) was
 failing state (Some Left) told true Nothing was = stays told (is_error state) was
 failing state (Some Lost) told true Nothing was = lost told true
 
-fails-snoc : (events : List Event) (event : Event) (name : List ℕ)
-    → fails (events ++ event ∷ []) name
-    ≡ (fails events name || is_error (state_or_error (record { state = last_told name (events ++ event ∷ []); ending = first_ending name (events ++ event ∷ []) })))
-fails-snoc events event name =
-    rw (any-snoc (λ (e : Event). bytes_eq e.name name && tells Error e.notice) events event, first_ending-snoc name events event, last_told-snoc name events event)
-    (failing (last_told name events) (first_ending name events) (tells_error name events) (bytes_eq event.name name) event.notice (error_was_told name events))
+fails-snoc : (notices : List NamedNotice) (named : NamedNotice) (name : List ℕ)
+    → fails (notices ++ named ∷ []) name
+    ≡ (fails notices name || is_error (state_or_error (record { state = last_told name (notices ++ named ∷ []); ending = first_ending name (notices ++ named ∷ []) })))
+fails-snoc notices named name =
+    rw (any-snoc (λ (e : NamedNotice). bytes_eq e.name name && tells Error e.notice) notices named, first_ending-snoc name notices named, last_told-snoc name notices named)
+    (failing (last_told name notices) (first_ending name notices) (tells_error name notices) (bytes_eq named.name name) named.notice (error_was_told name notices))
 
 -- ## Of all names
 
@@ -160,47 +160,47 @@ none_fail (name ∷ names) = none_fail names
 -- ## The controller
 
 -- what it keeps is what it was told
-record IsTold (required : List (List ℕ)) (held : Held) (past : List Event) : Type 0 where
-  required_is : held.required ≡ required
-  state : (name : List ℕ) → (seen_of held.roll name).state ≡ last_told name past
-  ending : (name : List ℕ) → (seen_of held.roll name).ending ≡ first_ending name past
-  aborting : held.aborting ≡ tells_aborting past
-  aborted : held.aborted ≡ list_any (fails past) required
-  error : has_error held ≡ true → held.aborted ≡ true
+record IsTold (required : List (List ℕ)) (controller : Controller) (past : List NamedNotice) : Type 0 where
+  required_is : controller.required ≡ required
+  state : (name : List ℕ) → (seen_of controller.table name).state ≡ last_told name past
+  ending : (name : List ℕ) → (seen_of controller.table name).ending ≡ first_ending name past
+  aborting : controller.aborting ≡ tells_aborting past
+  aborted : controller.aborted ≡ list_any (fails past) required
+  error : has_error controller ≡ true → controller.aborted ≡ true
 
-losing-roll : (held : Held) (name other : List ℕ) (gone : Bool) → is_over held ≡ false → is_gone (seen_of held.roll name) ≡ gone
-    → seen_of (cond gone held (holding held name (with_ending Lost) false)).roll other
-    ≡ cond (bytes_eq name other) (with_ending Lost (seen_of held.roll other)) (seen_of held.roll other)
-losing-roll held name other true over is = gone-seen held.roll name other is
-losing-roll held name other false over is = rw over (seen_of-change name (with_ending Lost) held.roll other)
+losing-table : (controller : Controller) (name other : List ℕ) (gone : Bool) → has_ended controller ≡ false → is_gone (seen_of controller.table name) ≡ gone
+    → seen_of (cond gone controller (noting controller name (with_ending Lost) false)).table other
+    ≡ cond (bytes_eq name other) (with_ending Lost (seen_of controller.table other)) (seen_of controller.table other)
+losing-table controller name other true over is = gone-seen controller.table name other is
+losing-table controller name other false over is = rw over (seen_of-change name (with_ending Lost) controller.table other)
 
-held-seen : (held : Held) (name : List ℕ) (notice : Notice) (other : List ℕ) → is_over held ≡ false
-    → seen_of (held_after held name notice).roll other ≡ cond (bytes_eq name other) (seen_after notice (seen_of held.roll other)) (seen_of held.roll other)
-unfolding held_after
-held-seen held name (Tells state) other over = rw over (seen_of-change name (with_state state) held.roll other)
-held-seen held name Leaves other over = rw over (seen_of-change name (with_ending Left) held.roll other)
-held-seen held name LosesLink other over = losing-roll held name other (is_gone (seen_of held.roll name)) over refl
-held-seen held name (Requires names) other over = either (bytes_eq name other) (seen_of held.roll other)
-held-seen held name Nothing other over = either (bytes_eq name other) (seen_of held.roll other)
+controller-seen : (controller : Controller) (name : List ℕ) (notice : Notice) (other : List ℕ) → has_ended controller ≡ false
+    → seen_of (controller_after controller name notice).table other ≡ cond (bytes_eq name other) (seen_after notice (seen_of controller.table other)) (seen_of controller.table other)
+unfolding controller_after
+controller-seen controller name (Tells state) other over = rw over (seen_of-change name (with_state state) controller.table other)
+controller-seen controller name Leaves other over = rw over (seen_of-change name (with_ending Left) controller.table other)
+controller-seen controller name LosesLink other over = losing-table controller name other (is_gone (seen_of controller.table name)) over refl
+controller-seen controller name (Requires names) other over = either (bytes_eq name other) (seen_of controller.table other)
+controller-seen controller name Nothing other over = either (bytes_eq name other) (seen_of controller.table other)
 
-losing-aborting : (held : Held) (name : List ℕ) (gone : Bool) → is_over held ≡ false → (cond gone held (holding held name (with_ending Lost) false)).aborting ≡ (held.aborting || false)
-losing-aborting held name true over = sym (or-false held.aborting)
-losing-aborting held name false over = rw over refl
+losing-aborting : (controller : Controller) (name : List ℕ) (gone : Bool) → has_ended controller ≡ false → (cond gone controller (noting controller name (with_ending Lost) false)).aborting ≡ (controller.aborting || false)
+losing-aborting controller name true over = sym (or-false controller.aborting)
+losing-aborting controller name false over = rw over refl
 
-held-aborting : (held : Held) (name : List ℕ) (notice : Notice) → is_over held ≡ false → (held_after held name notice).aborting ≡ (held.aborting || tells Aborting notice)
-unfolding held_after
-held-aborting held name (Tells state) over = rw over refl
-held-aborting held name Leaves over = rw over refl
-held-aborting held name LosesLink over = losing-aborting held name (is_gone (seen_of held.roll name)) over
-held-aborting held name (Requires names) over = sym (or-false held.aborting)
-held-aborting held name Nothing over = sym (or-false held.aborting)
+controller-aborting : (controller : Controller) (name : List ℕ) (notice : Notice) → has_ended controller ≡ false → (controller_after controller name notice).aborting ≡ (controller.aborting || tells Aborting notice)
+unfolding controller_after
+controller-aborting controller name (Tells state) over = rw over refl
+controller-aborting controller name Leaves over = rw over refl
+controller-aborting controller name LosesLink over = losing-aborting controller name (is_gone (seen_of controller.table name)) over
+controller-aborting controller name (Requires names) over = sym (or-false controller.aborting)
+controller-aborting controller name Nothing over = sym (or-false controller.aborting)
 
 -- it has aborted where it had, or where one is in Error now
-held-aborted : (held : Held) (name : List ℕ) (notice : Notice) → (has_error held ≡ true → held.aborted ≡ true)
-    → (held_after held name notice).aborted ≡ (held.aborted || has_error (held_after held name notice))
-held-aborted held name notice before = elim (step held name notice) [
-  | inl same ↦ ap (λ (h : Held). h.aborted) same ∙ absorbed held.aborted (has_error held) before ∙ ap (λ h. held.aborted || has_error h) (sym same)
-  | inr (noted, settles, keeps) ↦ ap (λ (h : Held). h.aborted) settles ∙ ap (λ aborted. aborted || has_error noted) keeps ∙ ap (λ h. held.aborted || has_error h) (sym settles)
+controller-aborted : (controller : Controller) (name : List ℕ) (notice : Notice) → (has_error controller ≡ true → controller.aborted ≡ true)
+    → (controller_after controller name notice).aborted ≡ (controller.aborted || has_error (controller_after controller name notice))
+controller-aborted controller name notice before = elim (step controller name notice) [
+  | inl same ↦ ap (λ (h : Controller). h.aborted) same ∙ absorbed controller.aborted (has_error controller) before ∙ ap (λ h. controller.aborted || has_error h) (sym same)
+  | inr (noted, settles, keeps) ↦ ap (λ (h : Controller). h.aborted) settles ∙ ap (λ aborted. aborted || has_error noted) keeps ∙ ap (λ h. controller.aborted || has_error h) (sym settles)
 ]
   where
     absorbed : (a b : Bool) → (b ≡ true → a ≡ true) → a ≡ (a || b)
@@ -208,68 +208,68 @@ held-aborted held name notice before = elim (step held name notice) [
     absorbed false true h = let no = h refl in absurd cc
     absorbed false false h = refl
 
-told-state : (required : List (List ℕ)) (held : Held) (past : List Event) (event : Event) → IsTold required held past → is_over held ≡ false → (name : List ℕ)
-    → (seen_of (held_after held event.name event.notice).roll name).state ≡ last_told name (past ++ event ∷ [])
-told-state required held past event is over name =
-    ap (λ (seen : Seen). seen.state) (held-seen held event.name event.notice name over)
-    ∙ seen-state event.notice (bytes_eq event.name name) (seen_of held.roll name)
-    ∙ ap (λ state. option_or (cond (bytes_eq event.name name) (state_in event.notice) None) state) (is.state name)
-    ∙ sym (last_told-snoc name past event)
+told-state : (required : List (List ℕ)) (controller : Controller) (past : List NamedNotice) (named : NamedNotice) → IsTold required controller past → has_ended controller ≡ false → (name : List ℕ)
+    → (seen_of (controller_after controller named.name named.notice).table name).state ≡ last_told name (past ++ named ∷ [])
+told-state required controller past named is over name =
+    ap (λ (seen : Seen). seen.state) (controller-seen controller named.name named.notice name over)
+    ∙ seen-state named.notice (bytes_eq named.name name) (seen_of controller.table name)
+    ∙ ap (λ state. option_or (cond (bytes_eq named.name name) (state_in named.notice) None) state) (is.state name)
+    ∙ sym (last_told-snoc name past named)
 
-told-ending : (required : List (List ℕ)) (held : Held) (past : List Event) (event : Event) → IsTold required held past → is_over held ≡ false → (name : List ℕ)
-    → (seen_of (held_after held event.name event.notice).roll name).ending ≡ first_ending name (past ++ event ∷ [])
-told-ending required held past event is over name =
-    ap (λ (seen : Seen). seen.ending) (held-seen held event.name event.notice name over)
-    ∙ seen-ending event.notice (bytes_eq event.name name) (seen_of held.roll name)
-    ∙ ap (λ ending. option_or ending (cond (bytes_eq event.name name) (ending_in event.notice) None)) (is.ending name)
-    ∙ sym (first_ending-snoc name past event)
+told-ending : (required : List (List ℕ)) (controller : Controller) (past : List NamedNotice) (named : NamedNotice) → IsTold required controller past → has_ended controller ≡ false → (name : List ℕ)
+    → (seen_of (controller_after controller named.name named.notice).table name).ending ≡ first_ending name (past ++ named ∷ [])
+told-ending required controller past named is over name =
+    ap (λ (seen : Seen). seen.ending) (controller-seen controller named.name named.notice name over)
+    ∙ seen-ending named.notice (bytes_eq named.name name) (seen_of controller.table name)
+    ∙ ap (λ ending. option_or ending (cond (bytes_eq named.name name) (ending_in named.notice) None)) (is.ending name)
+    ∙ sym (first_ending-snoc name past named)
 
-error-any : (held : Held) → has_error held ≡ list_any (λ name. is_error (held_state held name)) held.required
+error-any : (controller : Controller) → has_error controller ≡ list_any (λ name. is_error (controller_state controller name)) controller.required
 unfolding some_is
-error-any held = any-map (is_state Error) (λ name. unwrap_or (held_state held name) Invalid) held.required
+error-any controller = any-map (is_state Error) (λ name. unwrap_or (controller_state controller name) Invalid) controller.required
 
-told-aborted : (required : List (List ℕ)) (held : Held) (past : List Event) (event : Event) → IsTold required held past → is_over held ≡ false
-    → (held_after held event.name event.notice).aborted ≡ list_any (fails (past ++ event ∷ [])) required
-told-aborted required held past event is over =
-    let after : Held = held_after held event.name event.notice in
-    let names : after.required ≡ required = step-names held event.name event.notice ∙ is.required_is in
-    let errors : List ℕ → Bool = λ name. is_error (state_or_error (record { state = last_told name (past ++ event ∷ []); ending = first_ending name (past ++ event ∷ []) })) in
-    let here : (name : List ℕ) → is_error (held_state after name) ≡ errors name = λ name.
-    ap (λ state. is_error (state_or_error (record { state = state; ending = (seen_of after.roll name).ending }))) (told-state required held past event is over name)
-    ∙ ap (λ ending. is_error (state_or_error (record { state = last_told name (past ++ event ∷ []); ending = ending }))) (told-ending required held past event is over name) in
-    held-aborted held event.name event.notice is.error
-    ∙ ap (λ error. held.aborted || error) (error-any after ∙ ap (λ ns. list_any (λ name. is_error (held_state after name)) ns) names ∙ any-same (λ name. is_error (held_state after name)) errors required here)
+told-aborted : (required : List (List ℕ)) (controller : Controller) (past : List NamedNotice) (named : NamedNotice) → IsTold required controller past → has_ended controller ≡ false
+    → (controller_after controller named.name named.notice).aborted ≡ list_any (fails (past ++ named ∷ [])) required
+told-aborted required controller past named is over =
+    let after : Controller = controller_after controller named.name named.notice in
+    let names : after.required ≡ required = step-names controller named.name named.notice ∙ is.required_is in
+    let errors : List ℕ → Bool = λ name. is_error (state_or_error (record { state = last_told name (past ++ named ∷ []); ending = first_ending name (past ++ named ∷ []) })) in
+    let here : (name : List ℕ) → is_error (controller_state after name) ≡ errors name = λ name.
+    ap (λ state. is_error (state_or_error (record { state = state; ending = (seen_of after.table name).ending }))) (told-state required controller past named is over name)
+    ∙ ap (λ ending. is_error (state_or_error (record { state = last_told name (past ++ named ∷ []); ending = ending }))) (told-ending required controller past named is over name) in
+    controller-aborted controller named.name named.notice is.error
+    ∙ ap (λ error. controller.aborted || error) (error-any after ∙ ap (λ ns. list_any (λ name. is_error (controller_state after name)) ns) names ∙ any-same (λ name. is_error (controller_state after name)) errors required here)
     ∙ ap (λ aborted. aborted || list_any errors required) is.aborted
-    ∙ sym (any-or (fails past) errors (fails (past ++ event ∷ [])) required (fails-snoc past event))
+    ∙ sym (any-or (fails past) errors (fails (past ++ named ∷ [])) required (fails-snoc past named))
 
-told-one : (required : List (List ℕ)) (held : Held) (past : List Event) (event : Event) → IsTold required held past → is_over held ≡ false
-    → IsTold required (held_after held event.name event.notice) (past ++ event ∷ [])
-told-one required held past event is over = record {
-  required_is = step-names held event.name event.notice ∙ is.required_is;
-  state = told-state required held past event is over;
-  ending = told-ending required held past event is over;
+told-one : (required : List (List ℕ)) (controller : Controller) (past : List NamedNotice) (named : NamedNotice) → IsTold required controller past → has_ended controller ≡ false
+    → IsTold required (controller_after controller named.name named.notice) (past ++ named ∷ [])
+told-one required controller past named is over = record {
+  required_is = step-names controller named.name named.notice ∙ is.required_is;
+  state = told-state required controller past named is over;
+  ending = told-ending required controller past named is over;
   aborting =
-      held-aborting held event.name event.notice over
-      ∙ ap (λ aborting. aborting || tells Aborting event.notice) is.aborting
-      ∙ sym (any-snoc (λ (e : Event). tells Aborting e.notice) past event);
-  aborted = told-aborted required held past event is over;
-  error = step-error held event.name event.notice is.error;
+      controller-aborting controller named.name named.notice over
+      ∙ ap (λ aborting. aborting || tells Aborting named.notice) is.aborting
+      ∙ sym (any-snoc (λ (e : NamedNotice). tells Aborting e.notice) past named);
+  aborted = told-aborted required controller past named is over;
+  error = step-error controller named.name named.notice is.error;
 }
 
-told-all : (required : List (List ℕ)) (held : Held) (past events : List Event) → IsTold required held past
-    → IsTold required (held_after_all held events) (past ++ until_end held events)
-told-all required held past [] is = rw (append-nil past) is
-told-all required held past (event ∷ events) is =
-    split (is_over held) refl (λ over. told-all required (held_after held event.name event.notice) (past ++ event ∷ []) events (told-one required held past event is over))
+told-all : (required : List (List ℕ)) (controller : Controller) (past notices : List NamedNotice) → IsTold required controller past
+    → IsTold required (controller_after_all controller notices) (past ++ until_end controller notices)
+told-all required controller past [] is = rw (append-nil past) is
+told-all required controller past (named ∷ notices) is =
+    split (has_ended controller) refl (λ over. told-all required (controller_after controller named.name named.notice) (past ++ named ∷ []) notices (told-one required controller past named is over))
   where
-    split : (over : Bool) → is_over held ≡ over
-        → (is_over held ≡ false → IsTold required (held_after_all held (event ∷ events)) ((past ++ event ∷ []) ++ until_end (held_after held event.name event.notice) events))
-        → IsTold required (held_after_all held (event ∷ events)) (past ++ cond over [] (event ∷ until_end (held_after held event.name event.notice) events))
-    split true over later = rw (append-nil past, over_stays held (event ∷ events) over) is
-    split false over later = rw (sym (append_assoc past (event ∷ []) (until_end (held_after held event.name event.notice) events))) (later over)
+    split : (over : Bool) → has_ended controller ≡ over
+        → (has_ended controller ≡ false → IsTold required (controller_after_all controller (named ∷ notices)) ((past ++ named ∷ []) ++ until_end (controller_after controller named.name named.notice) notices))
+        → IsTold required (controller_after_all controller (named ∷ notices)) (past ++ cond over [] (named ∷ until_end (controller_after controller named.name named.notice) notices))
+    split true over later = rw (append-nil past, end_stays controller (named ∷ notices) over) is
+    split false over later = rw (sym (append_assoc past (named ∷ []) (until_end (controller_after controller named.name named.notice) notices))) (later over)
 
-from_start : (required : List (List ℕ)) (events : List Event) → IsTold required (held_after_all (nothing_held required) events) (until_end (nothing_held required) events)
-from_start required events = told-all required (nothing_held required) [] events (record {
+from_start : (required : List (List ℕ)) (notices : List NamedNotice) → IsTold required (controller_after_all (new_controller required) notices) (until_end (new_controller required) notices)
+from_start required notices = told-all required (new_controller required) [] notices (record {
   required_is = refl;
   state = λ name. refl;
   ending = λ name. refl;
@@ -278,18 +278,18 @@ from_start required events = told-all required (nothing_held required) [] events
   error = λ start. let none = no_error-start required in absurd cc;
 })
 
-pub aborting_told : (required : List (List ℕ)) (events : List Event)
-    → (held_after_all (nothing_held required) events).aborting ≡ tells_aborting (until_end (nothing_held required) events)
-aborting_told required events = (from_start required events).aborting
+pub aborting_told : (required : List (List ℕ)) (notices : List NamedNotice)
+    → (controller_after_all (new_controller required) notices).aborting ≡ tells_aborting (until_end (new_controller required) notices)
+aborting_told required notices = (from_start required notices).aborting
 
-pub aborted_fails : (required : List (List ℕ)) (events : List Event)
-    → (held_after_all (nothing_held required) events).aborted ≡ list_any (fails (until_end (nothing_held required) events)) required
-aborted_fails required events = (from_start required events).aborted
+pub aborted_fails : (required : List (List ℕ)) (notices : List NamedNotice)
+    → (controller_after_all (new_controller required) notices).aborted ≡ list_any (fails (until_end (new_controller required) notices)) required
+aborted_fails required notices = (from_start required notices).aborted
 
-pub over_gone : (required : List (List ℕ)) (events : List Event)
-    → is_over (held_after_all (nothing_held required) events) ≡ list_all (λ name. is_some (first_ending name (until_end (nothing_held required) events))) required
-over_gone required events =
-    let told = from_start required events in
-    ap (λ names. list_all (λ name. is_gone (seen_of (held_after_all (nothing_held required) events).roll name)) names) told.required_is
-    ∙ all-same (λ name. is_gone (seen_of (held_after_all (nothing_held required) events).roll name)) (λ name. is_some (first_ending name (until_end (nothing_held required) events))) required
+pub ended_gone : (required : List (List ℕ)) (notices : List NamedNotice)
+    → has_ended (controller_after_all (new_controller required) notices) ≡ list_all (λ name. is_some (first_ending name (until_end (new_controller required) notices))) required
+ended_gone required notices =
+    let told = from_start required notices in
+    ap (λ names. list_all (λ name. is_gone (seen_of (controller_after_all (new_controller required) notices).table name)) names) told.required_is
+    ∙ all-same (λ name. is_gone (seen_of (controller_after_all (new_controller required) notices).table name)) (λ name. is_some (first_ending name (until_end (new_controller required) notices))) required
     (λ name. ap (λ ending. is_some ending) (told.ending name))

@@ -3,7 +3,7 @@ use Rattle.std.proofs.Common.{◌≡◌, ℕ, Bool, true, false, ◌&&◌, not, 
 use Rattle.sk_msg.specs.declared.content.Content.{Content}
 use Rattle.sk_msg.specs.declared.content.Content.TheVariants.{Leave, Status}
 use Rattle.sk_msg.specs.declared.state.State.{State}
-use Rattle.sk_system.specs.Controller.{Held, held_after}
+use Rattle.sk_system.specs.Controller.{Controller, controller_after}
 use Rattle.sk_system.specs.Notice.{notice_of}
 use Rattle.sk_system.proofs.NoticeLaws.{other_kinds}
 
@@ -13,10 +13,10 @@ no_second true = refl
 no_second false = refl
 
 -- kinds other than Status and Leave change nothing
-pub passed_over : (held : Held) (name : List ℕ) (content : Content)
-    → (content ≡ Leave → ⊥) → ((state : State) (until : ℕ) → content ≡ Status state until → ⊥) → held_after held name (notice_of content) ≡ held
-unfolding held_after
-passed_over held name content a b = elim (other_kinds content a b) [
+pub passed_over : (controller : Controller) (name : List ℕ) (content : Content)
+    → (content ≡ Leave → ⊥) → ((state : State) (until : ℕ) → content ≡ Status state until → ⊥) → controller_after controller name (notice_of content) ≡ controller
+unfolding controller_after
+passed_over controller name content a b = elim (other_kinds content a b) [
   | inl none ↦ rw none refl
   | inr (names, is) ↦ rw is refl
 ]

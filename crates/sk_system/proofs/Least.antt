@@ -1,13 +1,10 @@
 -- Where none has reached Stopping, the least in the chain is the first place before Running at which one stands, else Running.
 use Rattle.std.proofs.Common.{◌≡◌, Bool, true, false, cond, List, [], ◌∷◌, Option, Some, None, refl}
 use Rattle.std.specs.Prelude.{◌||◌, map, unwrap_or}
-use Rattle.std.specs.Bool.{beq}
-use Rattle.std.specs.List.{list_all}
 use Rattle.std.proofs.lemmas.Bool.{or_parts, or_left}
 use Rattle.sk_msg.specs.States.{is_state, counted, has_reached}
 use Rattle.sk_msg.specs.declared.state.State.{State}
-use Rattle.sk_msg.specs.declared.state.State.TheVariants.{Invalid, ServicesCreated, CommunicationInitializing, CommunicationInitialized, ReadyToRun, Running, Stopping, Error, Aborting}
-use Rattle.sk_msg.proofs.StateLaws.{all_states, each_state, beq-same}
+use Rattle.sk_msg.specs.declared.state.State.TheVariants.{Invalid, ServicesCreated, CommunicationInitializing, CommunicationInitialized, ReadyToRun, Running, Paused, Stopping, Stopped, Error, ShuttingDown, Shutdown, Aborting}
 use Rattle.sk_system.specs.System.{some_is, some_reached, is_unknown, least, least_before_stopping}
 
 -- before Running each state counts as itself
@@ -16,14 +13,45 @@ unfolding some_is
 counts_as_itself place each [] = refl
 counts_as_itself place each (state ∷ states) = rw (each state, counts_as_itself place each states) refl
 
-same_before_running : (place : State) → list_all (λ state. beq (is_state place (counted state)) (is_state place state)) all_states ≡ true → (states : List State) → some_is place (map counted states) ≡ some_is place states
-same_before_running place test states =
-    counts_as_itself place (λ state. beq-same _ _ (each_state (λ s. beq (is_state place (counted s)) (is_state place s)) test state)) states
+-- before Running no state counts as another
+record CountsAsItself (state : State) : Type 0 where
+  created : is_state ServicesCreated (counted state) ≡ is_state ServicesCreated state
+  initializing : is_state CommunicationInitializing (counted state) ≡ is_state CommunicationInitializing state
+  initialized : is_state CommunicationInitialized (counted state) ≡ is_state CommunicationInitialized state
+  ready : is_state ReadyToRun (counted state) ≡ is_state ReadyToRun state
+
+itself : (state : State) → CountsAsItself state
+unfolding is_state
+itself Invalid = record { created = refl; initializing = refl; initialized = refl; ready = refl }
+itself ServicesCreated = record { created = refl; initializing = refl; initialized = refl; ready = refl }
+itself CommunicationInitializing = record { created = refl; initializing = refl; initialized = refl; ready = refl }
+itself CommunicationInitialized = record { created = refl; initializing = refl; initialized = refl; ready = refl }
+itself ReadyToRun = record { created = refl; initializing = refl; initialized = refl; ready = refl }
+itself Running = record { created = refl; initializing = refl; initialized = refl; ready = refl }
+itself Paused = record { created = refl; initializing = refl; initialized = refl; ready = refl }
+itself Stopping = record { created = refl; initializing = refl; initialized = refl; ready = refl }
+itself Stopped = record { created = refl; initializing = refl; initialized = refl; ready = refl }
+itself Error = record { created = refl; initializing = refl; initialized = refl; ready = refl }
+itself ShuttingDown = record { created = refl; initializing = refl; initialized = refl; ready = refl }
+itself Shutdown = record { created = refl; initializing = refl; initialized = refl; ready = refl }
+itself Aborting = record { created = refl; initializing = refl; initialized = refl; ready = refl }
 
 -- each state is Running or Paused, or one of these
 at_work : (state : State) → (is_state Invalid state || (is_state Aborting state || (is_state Error state || (has_reached state Stopping || (is_state ServicesCreated state || (is_state CommunicationInitializing state || (is_state CommunicationInitialized state || (is_state ReadyToRun state || is_state Running (counted state))))))))) ≡ true
 unfolding is_state has_reached
-at_work state = each_state (λ state. is_state Invalid state || (is_state Aborting state || (is_state Error state || (has_reached state Stopping || (is_state ServicesCreated state || (is_state CommunicationInitializing state || (is_state CommunicationInitialized state || (is_state ReadyToRun state || is_state Running (counted state))))))))) refl state
+at_work Invalid = refl
+at_work ServicesCreated = refl
+at_work CommunicationInitializing = refl
+at_work CommunicationInitialized = refl
+at_work ReadyToRun = refl
+at_work Running = refl
+at_work Paused = refl
+at_work Stopping = refl
+at_work Stopped = refl
+at_work Error = refl
+at_work ShuttingDown = refl
+at_work Shutdown = refl
+at_work Aborting = refl
 
 -- so it is where the first of them is none of these
 one_runs : (states : List State) → is_unknown states ≡ false → some_is Aborting states ≡ false → some_is Error states ≡ false → some_reached Stopping states ≡ false
@@ -46,7 +74,12 @@ one_runs (state ∷ states) known a e s p q r t =
 pub least-early : (states : List State) → is_unknown states ≡ false → some_is Aborting states ≡ false → some_is Error states ≡ false → some_reached Stopping states ≡ false → least_before_stopping states ≡ least states
 unfolding is_state
 least-early states known a e s =
-    rw (same_before_running ServicesCreated refl states, same_before_running CommunicationInitializing refl states, same_before_running CommunicationInitialized refl states, same_before_running ReadyToRun refl states)
+    rw (
+      counts_as_itself ServicesCreated (λ s. (itself s).created) states,
+      counts_as_itself CommunicationInitializing (λ s. (itself s).initializing) states,
+      counts_as_itself CommunicationInitialized (λ s. (itself s).initialized) states,
+      counts_as_itself ReadyToRun (λ s. (itself s).ready) states,
+    )
     (split (some_is ServicesCreated states) (some_is CommunicationInitializing states) (some_is CommunicationInitialized states) (some_is ReadyToRun states) _ _ _ (λ p q r t. one_runs states known a e s p q r t))
   where
     split : (p q r t u : Bool) (rest : Option State) (other : State) → (p ≡ false → q ≡ false → r ≡ false → t ≡ false → u ≡ true)

@@ -1,9 +1,10 @@
 pub mod Least
 pub mod NoteLaws
 pub mod NameLaws
-pub mod RollLaws
+pub mod TableLaws
 pub mod LineLaws
 pub mod NoticeLaws
+pub mod NoticeLines
 pub mod MonitorLaws
 pub mod ControllerLaws
 pub mod HistoryLaws

@@ -1,9 +1,8 @@
 pub mod System
 pub mod View
 pub mod Notes
-pub mod StateName
 pub mod Lines
-pub mod Roll
+pub mod Table
 pub mod Notice
 pub mod Monitor
 pub mod Controller

@@ -2,7 +2,7 @@
 use Rattle.std.specs.Prelude.{ℕ, List, [], ◌∷◌, ◌++◌, codes, if◌then◌else◌}
 use Rattle.sk_msg.specs.declared.state.State.{State}
 use Rattle.sk_msg.specs.States.{is_state}
-use Rattle.sk_system.specs.StateName.{state_name}
+use Rattle.sk_msg.specs.StateNames.{state_name}
 
 -- `NAME STATE`: a participant told its state
 unfoldable pub state_line : List ℕ → State → List ℕ

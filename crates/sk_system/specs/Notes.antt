@@ -9,6 +9,7 @@ pub record Note : Type 0 where
   pub number : ℕ
   pub state : State
 
+-- all are of participants below this number
 abbrev pub AreBelow : ℕ → List Note → Type 0
 AreBelow participants notes = AllByRecursion (λ note. note.number < participants) notes
 

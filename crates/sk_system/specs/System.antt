@@ -53,15 +53,15 @@ system_of states =
 -- ## Over names
 
 -- the last known state of each name; a name of which nothing is known counts as Invalid
-abbrev pub last_states : {Name : Type 0} → (Name → Option State) → List Name → List State
+abbrev pub last_states : {N : Type 0} → (N → Option State) → List N → List State
 last_states known names = map (λ name. unwrap_or (known name) Invalid) names
 
 -- none where the workflow isn't known
-abbrev pub system_state : {Name : Type 0} → Option (List Name) → (Name → Option State) → State
+abbrev pub system_state : {N : Type 0} → Option (List N) → (N → Option State) → State
 system_state None known = Invalid
 system_state (Some names) known = system_of (last_states known names)
 
 -- all required have reached this state; false where the workflow isn't known
-abbrev pub all_required_reached : {Name : Type 0} → Option (List Name) → (Name → Option State) → State → Bool
+abbrev pub all_required_reached : {N : Type 0} → Option (List N) → (N → Option State) → State → Bool
 all_required_reached None known goal = false
 all_required_reached (Some names) known goal = all_reached goal (last_states known names)

@@ -1,23 +1,18 @@
 //! The core of the controller: messages in, lines and decisions out.
 
 ghost use Rattle.std.specs.Prelude.{◌≡◌, ◌||◌, [], false, OnOk, OnErr, IfOk, if◌then◌else◌};
-ghost use Rattle.sk_system.specs.Roll.{seen_of, put, state_or_error};
+ghost use Rattle.sk_system.specs.Table.{seen_of, put, state_or_error};
 ghost use Rattle.sk_system.specs.Notice.{LosesLink, notice_of};
-ghost use Rattle.sk_system.specs.Controller.{nothing_held, is_over, end_of, settled, held_after, lines_between, aborts_between};
+ghost use Rattle.sk_system.specs.Controller.{new_controller, has_ended, end_of, with_decision};
+ghost use Rattle.sk_system.specs.Controller.{controller_after, controller_lines, controller_aborts, lines_between, aborts_between};
 
-use crate::line::{Line, with_system_line};
+use crate::line::{Lines, with_system_line};
 use crate::required::{LastStates, Required, is_same};
-use crate::roll::{Ending, Roll, Seen, Supposed};
-use sk_base::{Name, WantOfMemory};
+use crate::table::{Ending, Overlay, ParticipantTable, Seen};
+use sk_base::{ExitStatus, Name, WantOfMemory};
 use sk_msg::{Content, Message, Names, State};
 use std::alloc::Global;
 use std::marker::Model;
-
-/// The status of a controller that ends after an abort.
-const ABORTED: u8 = 6;
-
-/// The status of a controller that ends in order.
-const DONE: u8 = 0;
 
 /// What the controller has seen of a simulation. Contracts see what it keeps: whom it requires, of
 /// each name the last state and whether it has left or is lost, the state of the last system line,
@@ -26,20 +21,20 @@ const DONE: u8 = 0;
 pub struct Controller {
     alloc: Global,
     required: Names,
-    roll: Roll,
+    table: ParticipantTable,
     printed: State,
     aborted: bool,
     aborting: bool,
 }
 
 impl Model for Controller {
-    ghost use Rattle.sk_system.specs.Controller.{Held};
+    ghost use Rattle.sk_system.specs.Controller.{Controller};
 
-    ghost Value = { Held };
+    ghost Value = { Controller };
 
     ghost view = { λ c. record {
       required = c.required;
-      roll = c.roll;
+      table = c.table;
       printed = c.printed;
       aborted = c.aborted;
       aborting = c.aborting;
@@ -50,23 +45,24 @@ impl Model for Controller {
 #[derive(Debug, Drop)]
 pub struct Reaction {
     /// To be printed.
-    pub lines: Vec<Line>,
+    pub lines: Lines,
     /// Whether Abort is to go to every open link. It is true at most once.
     pub abort: bool,
-    /// The status, once each that is required has left or is lost: 6 after an abort, else 0.
-    pub ended: Option<u8>,
+    /// The status, once each that is required has left or is lost: Aborted where an abort was asked
+    /// for or a participant was Aborting, else Done.
+    pub ended: Option<ExitStatus>,
 }
 
 impl Controller {
     /// These are required, and nothing was seen of them yet. What is seen later is kept in this
     /// memory.
     pub fn new(alloc: Global, required: Vec<Name>) -> Controller
-        ensures { result ≡ nothing_held required.items }
+        ensures { result ≡ new_controller required.items }
     {
         Controller {
             alloc,
             required: Names::new(required),
-            roll: Roll::new(alloc),
+            table: ParticipantTable::new(alloc),
             printed: State::Invalid,
             aborted: false,
             aborting: false,
@@ -75,21 +71,24 @@ impl Controller {
 
     /// What follows from a message of this name: a line where the system state has changed, an
     /// abort where one that is required is in Error for the first time, and the end.
-    #[tactic(auto, unfolding(crate::specs::Controller::held_after))]
+    #[tactic(auto, unfolding(crate::specs::Controller::controller_after))]
     pub fn note(&mut self, name: &Name, message: &Message) -> Result<Reaction, WantOfMemory>
-        ensures kept { OnOk result (self.new ≡ held_after self.old name.now (notice_of message.now)) }
-        ensures lines { IfOk result (λ reaction. reaction.lines.items ≡ lines_between self.old self.new) }
-        ensures abort { IfOk result (λ reaction. reaction.abort ≡ aborts_between self.old self.new) }
+        ensures kept { OnOk result
+            (self.new ≡ controller_after self.old name.now (notice_of message.now)) }
+        ensures lines { IfOk result (λ reaction.
+            reaction.lines ≡ controller_lines self.old name.now (notice_of message.now)) }
+        ensures abort { IfOk result (λ reaction.
+            reaction.abort ≡ controller_aborts self.old name.now (notice_of message.now)) }
         ensures ended { IfOk result (λ reaction. reaction.ended ≡ end_of self.new) }
         ensures same { OnErr result (self.new ≡ self.old) }
     {
         match message.content() {
             Content::Status { state, .. } => {
-                let seen = self.roll.of(name).with_state(*state);
+                let seen = self.table.of(name).with_state(*state);
                 self.see(name, seen, is_same(State::Aborting, *state))
             }
             Content::Leave => {
-                let seen = self.roll.of(name).with_ending(Ending::Left);
+                let seen = self.table.of(name).with_ending(Ending::Left);
                 self.see(name, seen, false)
             }
             _ => Ok(self.at_rest()),
@@ -98,15 +97,17 @@ impl Controller {
 
     /// What follows from the loss of this name's link before its Leave: from then on its state is
     /// taken as Error. After its Leave, or a second time, it counts no more.
-    #[tactic(auto, using(crate::proofs::LineLaws::unchanged), unfolding(crate::specs::Controller::held_after))]
+    #[tactic(auto, using(crate::proofs::LineLaws::unchanged), unfolding(crate::specs::Controller::controller_after))]
     pub fn lost(&mut self, name: &Name) -> Result<Reaction, WantOfMemory>
-        ensures kept { OnOk result (self.new ≡ held_after self.old name.now LosesLink) }
-        ensures lines { IfOk result (λ reaction. reaction.lines.items ≡ lines_between self.old self.new) }
-        ensures abort { IfOk result (λ reaction. reaction.abort ≡ aborts_between self.old self.new) }
+        ensures kept { OnOk result (self.new ≡ controller_after self.old name.now LosesLink) }
+        ensures lines { IfOk result (λ reaction.
+            reaction.lines ≡ controller_lines self.old name.now LosesLink) }
+        ensures abort { IfOk result (λ reaction.
+            reaction.abort ≡ controller_aborts self.old name.now LosesLink) }
         ensures ended { IfOk result (λ reaction. reaction.ended ≡ end_of self.new) }
         ensures same { OnErr result (self.new ≡ self.old) }
     {
-        let seen = self.roll.of(name);
+        let seen = self.table.of(name);
         if seen.is_gone() {
             return Ok(self.at_rest());
         }
@@ -116,18 +117,18 @@ impl Controller {
     /// This was seen of the name; after the end it doesn't count.
     #[tactic(auto, using(crate::proofs::LineLaws::unchanged))]
     fn see(&mut self, name: &Name, seen: Seen, aborting: bool) -> Result<Reaction, WantOfMemory>
-        ensures kept { OnOk result (self.new ≡ (if is_over self.old then self.old
-            else settled (record self.old { roll = put name.now seen self.old.roll; aborting = self.old.aborting || aborting }))) }
-        ensures lines { IfOk result (λ reaction. reaction.lines.items ≡ lines_between self.old self.new) }
+        ensures kept { OnOk result (self.new ≡ (if has_ended self.old then self.old
+            else with_decision (record self.old { table = put name.now seen self.old.table; aborting = self.old.aborting || aborting }))) }
+        ensures lines { IfOk result (λ reaction. reaction.lines ≡ lines_between self.old self.new) }
         ensures abort { IfOk result (λ reaction. reaction.abort ≡ aborts_between self.old self.new) }
         ensures ended { IfOk result (λ reaction. reaction.ended ≡ end_of self.new) }
         ensures same { OnErr result (self.new ≡ self.old) }
     {
-        if self.is_over() {
+        if self.has_ended() {
             return Ok(self.at_rest());
         }
-        let known = LossAsError(Supposed {
-            roll: &self.roll,
+        let known = LossAsError(Overlay {
+            table: &self.table,
             name,
             seen,
         });
@@ -138,13 +139,13 @@ impl Controller {
         let system = required.system();
         let has_error = required.some_is(State::Error);
         let lines = with_system_line(self.alloc, Vec::new(self.alloc), self.printed, system)?;
-        self.roll.put(self.alloc, name, seen)?;
+        self.table.put(self.alloc, name, seen)?;
         let abort = has_error && !self.aborted;
         self.printed = system;
         self.aborted |= has_error;
         self.aborting |= aborting;
         Ok(Reaction {
-            lines,
+            lines: Lines::new(lines),
             abort,
             ended: self.ended(),
         })
@@ -152,48 +153,48 @@ impl Controller {
 
     /// Nothing changes.
     fn at_rest(&self) -> Reaction
-        ensures lines { result.lines.items ≡ [] }
+        ensures lines { result.lines ≡ [] }
         ensures abort { result.abort ≡ false }
         ensures ended { result.ended ≡ end_of self.now }
     {
         Reaction {
-            lines: Vec::new(self.alloc),
+            lines: Lines::new(Vec::new(self.alloc)),
             abort: false,
             ended: self.ended(),
         }
     }
 
     /// The status with which it has ended.
-    fn ended(&self) -> Option<u8>
+    fn ended(&self) -> Option<ExitStatus>
         ensures { result ≡ end_of self.now }
     {
-        if !self.is_over() {
+        if !self.has_ended() {
             return None;
         }
         if self.aborting || self.aborted {
-            Some(ABORTED)
+            Some(ExitStatus::Aborted)
         } else {
-            Some(DONE)
+            Some(ExitStatus::Done)
         }
     }
 
     /// Whether each that is required has left or is lost.
-    fn is_over(&self) -> bool
-        ensures { result ≡ is_over self.now }
+    fn has_ended(&self) -> bool
+        ensures { result ≡ has_ended self.now }
     {
         self.required
             .as_slice()
             .iter()
-            .all(|name| self.roll.of(name).is_gone())
+            .all(|name| self.table.of(name).is_gone())
     }
 }
 
 /// The last states by name, where that of a lost one is taken as Error.
 #[derive(Clone, Copy)]
-struct LossAsError<'a>(Supposed<'a>);
+struct LossAsError<'a>(Overlay<'a>);
 
 impl LastStates<Name> for LossAsError<'_> {
-    ghost known = { λ states name. state_or_error (seen_of (put states.0.name.now states.0.seen states.0.roll.now) name) };
+    ghost known = { λ states name. state_or_error (seen_of (put states.0.name.now states.0.seen states.0.table.now) name) };
 
     fn last_state(&self, name: &Name) -> State {
         self.0.of(name).state_or_error().unwrap_or(State::Invalid)

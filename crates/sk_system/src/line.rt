@@ -4,32 +4,45 @@ ghost use Rattle.std.specs.Prelude.{◌≡◌, ◌++◌, IfOk};
 ghost use Rattle.sk_system.specs.Lines.{state_line, left_line, lost_line, system_line, system_lines};
 
 use crate::required::is_same;
-use crate::state_name::name_of;
-use sk_base::{Name, WantOfMemory};
+use sk_base::{Line, Name, WantOfMemory};
 use sk_msg::State;
 use std::alloc::Global;
 use std::marker::Model;
 
-/// One line, without its newline. Contracts see its text.
+/// Lines in order. Contracts see the list.
 #[derive(Debug, Drop)]
-pub struct Line {
-    text: String,
+pub struct Lines {
+    lines: Vec<Line>,
 }
 
-impl Model for Line {
+impl Model for Lines {
     ghost use Rattle.std.specs.Prelude.{List, ℕ};
-    ghost use Rattle.std.specs.String.{string_bytes};
 
-    ghost Value = { List ℕ };
+    ghost Value = { List (List ℕ) };
 
-    ghost view = { λ line. string_bytes line.text };
+    ghost view = { λ lines. lines.lines.items };
 }
 
-impl Line {
-    pub fn as_str(&self) -> &str
+impl Lines {
+    /// These lines, in this order.
+    pub fn new(lines: Vec<Line>) -> Lines
+        ensures { result ≡ lines.items }
+    {
+        Lines { lines }
+    }
+
+    /// The lines in order.
+    pub fn as_slice(&self) -> &[Line]
         ensures { result.now ≡ self.now }
     {
-        self.text.as_str()
+        self.lines.as_slice()
+    }
+
+    /// The vector that they were made from.
+    pub fn into_vec(self) -> Vec<Line>
+        ensures { result.items ≡ self }
+    {
+        self.lines
     }
 }
 
@@ -39,10 +52,8 @@ pub fn state_line(alloc: Global, name: &Name, state: State) -> Result<Line, Want
     ensures { IfOk result (λ line. line ≡ state_line name.now state) }
 {
     let name = name.as_str();
-    let state = name_of(state);
-    Ok(Line {
-        text: format!(in alloc; "{name} {state}")?,
-    })
+    let state = state.name();
+    Ok(Line::new(format!(in alloc; "{name} {state}")?))
 }
 
 /// `left NAME`: a participant left.
@@ -51,9 +62,7 @@ pub fn left_line(alloc: Global, name: &Name) -> Result<Line, WantOfMemory>
     ensures { IfOk result (λ line. line ≡ left_line name.now) }
 {
     let name = name.as_str();
-    Ok(Line {
-        text: format!(in alloc; "left {name}")?,
-    })
+    Ok(Line::new(format!(in alloc; "left {name}")?))
 }
 
 /// `lost NAME`: a participant's link ended before that.
@@ -62,9 +71,7 @@ pub fn lost_line(alloc: Global, name: &Name) -> Result<Line, WantOfMemory>
     ensures { IfOk result (λ line. line ≡ lost_line name.now) }
 {
     let name = name.as_str();
-    Ok(Line {
-        text: format!(in alloc; "lost {name}")?,
-    })
+    Ok(Line::new(format!(in alloc; "lost {name}")?))
 }
 
 /// `system STATE`: the state of the whole simulation.
@@ -72,10 +79,8 @@ pub fn lost_line(alloc: Global, name: &Name) -> Result<Line, WantOfMemory>
 pub fn system_line(alloc: Global, state: State) -> Result<Line, WantOfMemory>
     ensures { IfOk result (λ line. line ≡ system_line state) }
 {
-    let state = name_of(state);
-    Ok(Line {
-        text: format!(in alloc; "system {state}")?,
-    })
+    let state = state.name();
+    Ok(Line::new(format!(in alloc; "system {state}")?))
 }
 
 /// These lines, and behind them one for the system state where it isn't that of the last such line.

@@ -18,29 +18,29 @@ const BEFORE_RUNNING: [State; 4] = [
 ];
 
 /// What tells the last known state of a name.
-pub trait LastStates<Name> {
+pub trait LastStates<N> {
     ghost use Rattle.std.specs.Prelude.{Option};
 
     /// None where nothing is known of it.
-    ghost known: { Self → Name → Option State };
+    ghost known: { Self → N → Option State };
 
     /// The last known state of this name; Invalid where nothing is known of it.
-    fn last_state(&self, name: &Name) -> State
+    fn last_state(&self, name: &N) -> State
         ensures { result ≡ unwrap_or (known self.now name.now) State.Invalid };
 }
 
 /// The names that are required, and what tells their last known states.
 #[derive(Drop)]
-pub struct Required<'a, Name, Known> {
-    pub names: &'a [Name],
-    pub known: &'a Known,
+pub struct Required<'a, N, S> {
+    pub names: &'a [N],
+    pub known: &'a S,
 }
 
-impl<Name, Known: LastStates<Name>> Required<'_, Name, Known> {
+impl<N, S: LastStates<N>> Required<'_, N, S> {
     /// The first of the six rules that fits.
     #[tactic(auto, using(crate::proofs::Least::least_early), unfolding(crate::specs::System::system_of))]
     pub fn system(&self) -> State
-        ensures { result ≡ system_of (last_states (Known.known self.now.known.now) self.now.names.now) }
+        ensures { result ≡ system_of (last_states (S.known self.now.known.now) self.now.names.now) }
     {
         if self.is_unknown() {
             return State::Invalid;
@@ -62,14 +62,14 @@ impl<Name, Known: LastStates<Name>> Required<'_, Name, Known> {
 
     /// Whether nobody is required, or one is Invalid or has no known state.
     fn is_unknown(&self) -> bool
-        ensures { result ≡ is_unknown (last_states (Known.known self.now.known.now) self.now.names.now) }
+        ensures { result ≡ is_unknown (last_states (S.known self.now.known.now) self.now.names.now) }
     {
         self.names.is_empty() || self.some_is(State::Invalid)
     }
 
     /// Whether all are Running or Paused, and one is Paused.
     fn is_paused(&self) -> bool
-        ensures { result ≡ is_paused (last_states (Known.known self.now.known.now) self.now.names.now) }
+        ensures { result ≡ is_paused (last_states (S.known self.now.known.now) self.now.names.now) }
     {
         self.all_running_or_paused() && self.some_is(State::Paused)
     }
@@ -77,7 +77,7 @@ impl<Name, Known: LastStates<Name>> Required<'_, Name, Known> {
     /// Shutdown, ShuttingDown or Stopped, the last in the chain that all have reached; else
     /// Stopping.
     fn ending(&self) -> State
-        ensures { result ≡ ending (last_states (Known.known self.now.known.now) self.now.names.now) }
+        ensures { result ≡ ending (last_states (S.known self.now.known.now) self.now.names.now) }
     {
         [State::Shutdown, State::ShuttingDown, State::Stopped]
             .iter()
@@ -89,7 +89,7 @@ impl<Name, Known: LastStates<Name>> Required<'_, Name, Known> {
     /// Whether one stands at this state.
     #[tactic(auto, unfolding(crate::specs::System::some_is))]
     pub fn some_is(&self, state: State) -> bool
-        ensures { result ≡ some_is state (last_states (Known.known self.now.known.now) self.now.names.now) }
+        ensures { result ≡ some_is state (last_states (S.known self.now.known.now) self.now.names.now) }
     {
         self.names
             .iter()
@@ -100,7 +100,7 @@ impl<Name, Known: LastStates<Name>> Required<'_, Name, Known> {
     /// Whether one has reached this state.
     #[tactic(auto, unfolding(crate::specs::System::some_reached))]
     fn some_reached(&self, goal: State) -> bool
-        ensures { result ≡ some_reached goal (last_states (Known.known self.now.known.now) self.now.names.now) }
+        ensures { result ≡ some_reached goal (last_states (S.known self.now.known.now) self.now.names.now) }
     {
         self.names
             .iter()
@@ -111,7 +111,7 @@ impl<Name, Known: LastStates<Name>> Required<'_, Name, Known> {
     /// Whether all have reached this state.
     #[tactic(auto, unfolding(crate::specs::System::all_reached))]
     pub fn all_reached(&self, goal: State) -> bool
-        ensures { result ≡ all_reached goal (last_states (Known.known self.now.known.now) self.now.names.now) }
+        ensures { result ≡ all_reached goal (last_states (S.known self.now.known.now) self.now.names.now) }
     {
         self.names
             .iter()
@@ -121,7 +121,7 @@ impl<Name, Known: LastStates<Name>> Required<'_, Name, Known> {
 
     fn all_running_or_paused(&self) -> bool
         ensures { result
-            ≡ list_all is_running_or_paused (last_states (Known.known self.now.known.now) self.now.names.now) }
+            ≡ list_all is_running_or_paused (last_states (S.known self.now.known.now) self.now.names.now) }
     {
         self.names
             .iter()
@@ -132,14 +132,14 @@ impl<Name, Known: LastStates<Name>> Required<'_, Name, Known> {
     /// The least in the chain, where none is outside it and none has reached Stopping.
     fn least_before_stopping(&self) -> State
         ensures { result
-            ≡ least_before_stopping (last_states (Known.known self.now.known.now) self.now.names.now) }
+            ≡ least_before_stopping (last_states (S.known self.now.known.now) self.now.names.now) }
     {
         self.first_at(&BEFORE_RUNNING).unwrap_or(State::Running)
     }
 
     /// The first of these at which one stands.
     fn first_at(&self, places: &[State]) -> Option<State>
-        ensures { let states = last_states (Known.known self.now.known.now) self.now.names.now in
+        ensures { let states = last_states (S.known self.now.known.now) self.now.names.now in
             result ≡ find (λ place. some_is place states) places.now }
     {
         places.iter().copied().find(|place| self.some_is(*place))
@@ -147,11 +147,11 @@ impl<Name, Known: LastStates<Name>> Required<'_, Name, Known> {
 }
 
 /// Whether both are one state, as a test that contracts name.
-#[tactic(auto, using(sk_msg::proofs::StateLaws::same_states))]
+#[tactic(auto, unfolding(sk_msg::specs::States::is_state))]
 pub fn is_same(one: State, other: State) -> bool
     ensures { result ≡ is_state one other }
 {
-    one == other
+    one.number() == other.number()
 }
 
 #[tactic(auto, unfolding(sk_msg::specs::States::is_state))]

@@ -1,91 +1,119 @@
 //! Lives of simulations, as the tools see them. What is expected was worked out by hand.
+//!
+//! A row says who, what is noted of it, and what follows. Noted is the name of a state for a
+//! Status, `Leave`, `Abort`, `needs` and names for a Workflow, or `lost` for the end of the link.
+//! What follows are the lines, `abort` where one is asked for, and the end; commas part them.
 
 ghost use Rattle.sk_msg.specs.Rules.{is_told};
 
-use crate::state_name::name_of;
-use crate::{Controller, Line, Monitor};
-use sk_base::{Name, SimTime};
-use sk_msg::State::{
-    Aborting, CommunicationInitialized, CommunicationInitializing, Error, Invalid, Paused,
-    ReadyToRun, Running, ServicesCreated, Shutdown, ShuttingDown, Stopped, Stopping,
-};
+use crate::{Controller, Monitor};
+use sk_base::{ExitStatus, Line, Name, SimTime};
 use sk_msg::rules::{is_new_name, is_told};
-use sk_msg::{Content, Message, Names, State};
+use sk_msg::{Message, Names, State};
 use std::alloc::Global;
 use std::process::Abort;
 use std::test::Fail;
 
-/// What a tool is told of a name.
-#[derive(Clone, Copy, Debug)]
-enum Told {
-    /// A Workflow.
-    Requires(&'static [&'static str]),
-    /// A Status.
-    State(State),
-    /// Its Leave.
-    Leaves,
-    /// A message of a kind that no tool looks at.
-    Aborts,
-    /// The end of its link.
-    LosesLink,
-}
+type Row = (&'static str, &'static str, &'static str);
 
-/// The message, or None for the end of a link.
-fn message_of(rt: &impl Abort, alloc: Global, told: Told) -> Result<Option<Message>, Fail> {
-    Ok(match told {
-        Told::Requires(texts) => Some(workflow(alloc, texts)?.expect(rt, "distinct names")),
-        Told::State(state) => Some(status(rt, state)),
-        Told::Leaves => Some(Message::leave()),
-        Told::Aborts => Some(Message::abort()),
-        Told::LosesLink => None,
+/// The message that was noted, or None for the end of a link.
+fn message_of(rt: &impl Abort, alloc: Global, noted: &str) -> Result<Option<Message>, Fail> {
+    Ok(match noted {
+        "lost" => None,
+        "Leave" => Some(Message::leave()),
+        "Abort" => Some(Message::abort()),
+        "needs A" => Some(workflow(rt, alloc, &["A"])?),
+        "needs B" => Some(workflow(rt, alloc, &["B"])?),
+        "needs A B C" => Some(workflow(rt, alloc, &["A", "B", "C"])?),
+        name => Some(status(rt, name)),
     })
 }
 
-fn status(rt: &impl Abort, state: State) -> Message {
-    assert!(rt; is_told(state));
-    Message::status(state, SimTime::new(0).expect(rt, "0 is a time"))
+/// The Status of the state of this name.
+fn status(rt: &impl Abort, name: &str) -> Message {
+    for tens in 1..13u8 {
+        if let Some(state) = State::from_number(tens * 10)
+            && state.name() == name
+        {
+            assert!(rt; is_told(state));
+            return Message::status(state, SimTime::new(0).expect(rt, "0 is a time"));
+        }
+    }
+    panic!(rt; "{name}")
 }
 
-/// None where these aren't 1 to 32 distinct names.
-fn workflow(alloc: Global, texts: &[&str]) -> Result<Option<Message>, Fail> {
+/// The Workflow of these names.
+fn workflow(rt: &impl Abort, alloc: Global, texts: &[&str]) -> Result<Message, Fail> {
     let mut names = Vec::new(alloc);
     for text in texts {
         let name = Name::new(alloc, text)?;
-        let _text = name.as_str();
-        if !is_new_name(&names, &name) {
-            return Ok(None);
-        }
+        assert!(rt; is_new_name(&names, &name), "{text} twice");
         names.push(name)?;
     }
-    if names.is_empty() || names.len() > 32 {
-        return Ok(None);
-    }
-    Ok(Some(Message::new(Content::Workflow {
-        required: Names::new(names),
-    })))
+    assert!(rt; 1 <= names.len());
+    assert!(rt; names.len() <= 32);
+    Ok(Message::workflow(Names::new(names)))
 }
 
-fn assert_lines(rt: &impl Abort, lines: &[Line], expected: &[&str], name: &str, told: Told) {
-    assert_eq!(rt; lines.len(), expected.len(), "{name} {told:?}");
-    for (line, text) in lines.iter().zip(expected) {
-        assert_eq!(rt; line.as_str(), *text, "{name} {told:?}");
-    }
-}
-
-/// What a monitor is told, one row after another, and what it prints then.
-fn watch(
-    rt: &impl Abort,
+/// What followed, as a row says it.
+fn follow(
     alloc: Global,
-    rows: &[(&'static str, Told, &'static [&'static str])],
-) -> Result<(), Fail> {
+    lines: &[Line],
+    abort: bool,
+    ended: Option<ExitStatus>,
+) -> Result<String, Fail> {
+    let mut text = String::new(alloc);
+    for line in lines {
+        add(&mut text, line.as_str())?;
+    }
+    if abort {
+        add(&mut text, "abort")?;
+    }
+    match ended {
+        Some(ExitStatus::Done) => add(&mut text, "done")?,
+        Some(ExitStatus::Aborted) => add(&mut text, "aborted")?,
+        _ => {}
+    }
+    Ok(text)
+}
+
+/// Adds one more behind a comma.
+fn add(text: &mut String, more: &str) -> Result<(), Fail> {
+    if !text.is_empty() {
+        text.push_str(", ")?;
+    }
+    text.push_str(more)?;
+    Ok(())
+}
+
+/// What a monitor is told, one row after another.
+fn watch(rt: &impl Abort, alloc: Global, rows: &[Row]) -> Result<(), Fail> {
     let mut monitor = Monitor::new(alloc);
-    for (name, told, expected) in rows {
+    for (name, noted, expected) in rows {
         let named = Name::new(alloc, name)?;
-        let lines = match message_of(rt, alloc, *told)? {
+        let lines = match message_of(rt, alloc, noted)? {
             Some(message) => monitor.note(&named, &message)?,
             None => monitor.lost(&named)?,
         };
-        assert_lines(rt, &lines, expected, name, *told);
+        let text = follow(alloc, &lines, false, None)?;
+        assert_eq!(rt; text.as_str(), *expected, "{name} {noted}");
+    }
+    Ok(())
+}
+
+/// What a controller that requires A and B is told, one row after another.
+fn control(rt: &impl Abort, alloc: Global, rows: &[Row]) -> Result<(), Fail> {
+    let required = vec![in alloc; Name::new(alloc, "A")?, Name::new(alloc, "B")?]?;
+    let mut controller = Controller::new(alloc, required);
+    for (name, noted, expected) in rows {
+        let named = Name::new(alloc, name)?;
+        let reaction = match message_of(rt, alloc, noted)? {
+            Some(message) => controller.note(&named, &message)?,
+            None => controller.lost(&named)?,
+        };
+        let lines = reaction.lines.into_vec();
+        let text = follow(alloc, &lines, reaction.abort, reaction.ended)?;
+        assert_eq!(rt; text.as_str(), *expected, "{name} {noted}");
     }
     Ok(())
 }
@@ -96,8 +124,8 @@ fn one_participant_runs(rt: HostRuntime) -> Result<(), Fail> {
         &rt,
         rt.alloc(),
         &[
-            ("SystemController", Told::Requires(&["A"]), &[]),
-            ("A", Told::State(Running), &["A Running", "system Running"]),
+            ("SystemController", "needs A", ""),
+            ("A", "Running", "A Running, system Running"),
         ],
     )
 }
@@ -108,113 +136,44 @@ fn three_participants_one_of_them_lost(rt: HostRuntime) -> Result<(), Fail> {
         &rt,
         rt.alloc(),
         &[
-            ("A", Told::State(ServicesCreated), &["A ServicesCreated"]),
-            ("SystemController", Told::Requires(&["A", "B", "C"]), &[]),
-            ("B", Told::State(ServicesCreated), &["B ServicesCreated"]),
-            (
-                "C",
-                Told::State(CommunicationInitializing),
-                &["C CommunicationInitializing", "system ServicesCreated"],
-            ),
-            (
-                "A",
-                Told::State(CommunicationInitializing),
-                &["A CommunicationInitializing"],
-            ),
-            (
-                "B",
-                Told::State(CommunicationInitialized),
-                &[
-                    "B CommunicationInitialized",
-                    "system CommunicationInitializing",
-                ],
-            ),
-            ("A", Told::State(ReadyToRun), &["A ReadyToRun"]),
-            ("B", Told::State(ReadyToRun), &["B ReadyToRun"]),
-            (
-                "C",
-                Told::State(ReadyToRun),
-                &["C ReadyToRun", "system ReadyToRun"],
-            ),
-            ("A", Told::State(Running), &["A Running"]),
-            ("B", Told::State(Running), &["B Running"]),
-            ("C", Told::State(Running), &["C Running", "system Running"]),
-            ("A", Told::State(Paused), &["A Paused", "system Paused"]),
-            ("SystemController", Told::Requires(&["B"]), &[]),
-            ("A", Told::State(Running), &["A Running", "system Running"]),
-            ("C", Told::LosesLink, &["lost C"]),
-            ("C", Told::LosesLink, &[]),
-            ("A", Told::State(Error), &["A Error", "system Error"]),
-            ("A", Told::Aborts, &[]),
-            (
-                "A",
-                Told::State(Aborting),
-                &["A Aborting", "system Aborting"],
-            ),
-            ("B", Told::State(Aborting), &["B Aborting"]),
-            ("A", Told::State(Shutdown), &["A Shutdown"]),
-            ("A", Told::Leaves, &["left A"]),
-            ("A", Told::LosesLink, &[]),
-            (
-                "B",
-                Told::State(Shutdown),
-                &["B Shutdown", "system Stopping"],
-            ),
-            ("B", Told::Leaves, &["left B"]),
+            ("A", "ServicesCreated", "A ServicesCreated"),
+            ("SystemController", "needs A B C", ""),
+            ("B", "ReadyToRun", "B ReadyToRun"),
+            ("C", "Running", "C Running, system ServicesCreated"),
+            ("A", "Running", "A Running, system ReadyToRun"),
+            ("B", "Running", "B Running, system Running"),
+            ("A", "Paused", "A Paused, system Paused"),
+            ("SystemController", "needs B", ""),
+            ("A", "Running", "A Running, system Running"),
+            ("C", "lost", "lost C"),
+            ("C", "lost", ""),
+            ("A", "Error", "A Error, system Error"),
+            ("A", "Abort", ""),
+            ("A", "Aborting", "A Aborting, system Aborting"),
+            ("A", "Shutdown", "A Shutdown, system Stopping"),
+            ("A", "Leave", "left A"),
+            ("A", "lost", ""),
         ],
     )
 }
 
-/// What a controller is told, one row after another, and what follows.
-fn control(
-    rt: &impl Abort,
-    alloc: Global,
-    rows: &[(
-        &'static str,
-        Told,
-        &'static [&'static str],
-        bool,
-        Option<u8>,
-    )],
-) -> Result<(), Fail> {
-    let required = vec![in alloc; Name::new(alloc, "A")?, Name::new(alloc, "B")?]?;
-    let mut controller = Controller::new(alloc, required);
-    for (name, told, expected, abort, ended) in rows {
-        let named = Name::new(alloc, name)?;
-        let reaction = match message_of(rt, alloc, *told)? {
-            Some(message) => controller.note(&named, &message)?,
-            None => controller.lost(&named)?,
-        };
-        assert_lines(rt, &reaction.lines, expected, name, *told);
-        assert_eq!(rt; reaction.abort, *abort, "{name} {told:?}");
-        assert_eq!(rt; reaction.ended, *ended, "{name} {told:?}");
-    }
-    Ok(())
-}
-
 #[test]
-fn an_error_aborts_once_and_ends_with_6(rt: HostRuntime) -> Result<(), Fail> {
+fn an_error_aborts_once(rt: HostRuntime) -> Result<(), Fail> {
     control(
         &rt,
         rt.alloc(),
         &[
-            ("B", Told::State(Running), &[], false, None),
-            ("A", Told::State(Running), &["system Running"], false, None),
-            ("C", Told::State(Error), &[], false, None),
-            ("B", Told::State(Error), &["system Error"], true, None),
-            ("A", Told::State(Error), &[], false, None),
-            (
-                "A",
-                Told::State(Aborting),
-                &["system Aborting"],
-                false,
-                None,
-            ),
-            ("B", Told::LosesLink, &[], false, None),
-            ("A", Told::State(Shutdown), &["system Error"], false, None),
-            ("A", Told::Leaves, &[], false, Some(6)),
-            ("A", Told::State(Running), &[], false, Some(6)),
-            ("B", Told::LosesLink, &[], false, Some(6)),
+            ("B", "Running", ""),
+            ("A", "Running", "system Running"),
+            ("C", "Error", ""),
+            ("B", "Error", "system Error, abort"),
+            ("A", "Error", ""),
+            ("A", "Aborting", "system Aborting"),
+            ("B", "lost", ""),
+            ("A", "Shutdown", "system Error"),
+            ("A", "Leave", "aborted"),
+            ("A", "Running", "aborted"),
+            ("B", "lost", "aborted"),
         ],
     )
 }
@@ -225,90 +184,48 @@ fn a_lost_one_is_in_error(rt: HostRuntime) -> Result<(), Fail> {
         &rt,
         rt.alloc(),
         &[
-            ("A", Told::State(Running), &[], false, None),
-            ("B", Told::State(Running), &["system Running"], false, None),
-            ("B", Told::LosesLink, &["system Error"], true, None),
-            ("B", Told::LosesLink, &[], false, None),
-            ("B", Told::State(Running), &[], false, None),
-            ("A", Told::LosesLink, &[], false, Some(6)),
+            ("A", "Running", ""),
+            ("B", "Running", "system Running"),
+            ("B", "lost", "system Error, abort"),
+            ("B", "lost", ""),
+            ("B", "Running", ""),
+            ("A", "lost", "aborted"),
         ],
     )
 }
 
 #[test]
-fn one_that_was_aborting_ends_it_with_6(rt: HostRuntime) -> Result<(), Fail> {
+fn one_that_was_aborting_ends_it_aborted(rt: HostRuntime) -> Result<(), Fail> {
     control(
         &rt,
         rt.alloc(),
         &[
-            ("C", Told::State(Aborting), &[], false, None),
-            ("A", Told::Leaves, &[], false, None),
-            ("B", Told::Leaves, &[], false, Some(6)),
+            ("C", "Aborting", ""),
+            ("A", "Leave", ""),
+            ("B", "Leave", "aborted"),
         ],
     )
 }
 
 #[test]
-fn a_calm_life_ends_with_0(rt: HostRuntime) -> Result<(), Fail> {
+fn a_calm_life_ends_done(rt: HostRuntime) -> Result<(), Fail> {
     control(
         &rt,
         rt.alloc(),
         &[
-            ("A", Told::State(Running), &[], false, None),
-            ("B", Told::State(Running), &["system Running"], false, None),
-            ("C", Told::Requires(&["C"]), &[], false, None),
-            (
-                "A",
-                Told::State(Stopping),
-                &["system Stopping"],
-                false,
-                None,
-            ),
-            ("B", Told::State(Stopped), &[], false, None),
-            ("A", Told::State(Stopped), &["system Stopped"], false, None),
-            ("A", Told::State(ShuttingDown), &[], false, None),
-            (
-                "B",
-                Told::State(Shutdown),
-                &["system ShuttingDown"],
-                false,
-                None,
-            ),
-            ("B", Told::Leaves, &[], false, None),
-            ("B", Told::LosesLink, &[], false, None),
-            (
-                "A",
-                Told::State(Shutdown),
-                &["system Shutdown"],
-                false,
-                None,
-            ),
-            ("A", Told::Aborts, &[], false, None),
-            ("A", Told::Leaves, &[], false, Some(0)),
-            ("A", Told::State(Aborting), &[], false, Some(0)),
+            ("A", "Running", ""),
+            ("B", "Running", "system Running"),
+            ("C", "needs A", ""),
+            ("A", "Stopping", "system Stopping"),
+            ("B", "Stopped", ""),
+            ("A", "Stopped", "system Stopped"),
+            ("A", "ShuttingDown", ""),
+            ("B", "Shutdown", "system ShuttingDown"),
+            ("B", "Leave", ""),
+            ("A", "Shutdown", "system Shutdown"),
+            ("A", "Abort", ""),
+            ("A", "Leave", "done"),
+            ("A", "Aborting", "done"),
         ],
     )
-}
-
-#[test]
-fn states_have_the_names_of_their_variants(rt: HostRuntime) -> Result<(), Fail> {
-    for state in [
-        Invalid,
-        ServicesCreated,
-        CommunicationInitializing,
-        CommunicationInitialized,
-        ReadyToRun,
-        Running,
-        Paused,
-        Stopping,
-        Stopped,
-        Error,
-        ShuttingDown,
-        Shutdown,
-        Aborting,
-    ] {
-        let variant = format!(in rt.alloc(); "{state:?}")?;
-        assert_eq!(rt; name_of(state), variant.as_str());
-    }
-    Ok(())
 }

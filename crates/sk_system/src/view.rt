@@ -31,7 +31,8 @@ impl SystemView {
     /// The view of so many participants, numbered from 0: the workflow isn't known, and no state
     /// is.
     pub fn new(alloc: Global, participants: u32) -> Result<SystemView, WantOfMemory>
-        ensures { IfOk result (λ view. view ≡ record { required = None; known = replicate participants None }) }
+        ensures { IfOk result (λ view.
+            view ≡ record { required = None; known = replicate participants None }) }
     {
         Ok(SystemView {
             required: None,
@@ -50,9 +51,21 @@ impl SystemView {
     /// This is the last known state of a participant from now on.
     pub fn note(&mut self, participant: u32, state: State)
         requires { participant < length self.old.known }
-        ensures { self.new ≡ record self.old { known = slice_set self.old.known participant (Some state) } }
+        ensures { self.new
+            ≡ record self.old { known = slice_set self.old.known participant (Some state) } }
     {
         self.known[participant as usize] = Some(state);
+    }
+
+    /// The last known state of a participant. None where no state of it is known, as of a number
+    /// that no participant has.
+    pub fn last(&self, participant: u32) -> Option<State>
+        ensures { result ≡ known_of self.now.known (Some participant) }
+    {
+        match self.known.get(participant as usize) {
+            Some(state) => *state,
+            None => None,
+        }
     }
 
     /// The state of the whole simulation: Invalid where the workflow isn't known, else the first of

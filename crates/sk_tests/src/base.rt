@@ -2,8 +2,8 @@ use sk_base::memory::{
     CallKind, FailAt, MemFile, MemFiles, MemGive, MemLink, MemNet, MemSink, MemTake,
 };
 use sk_base::{
-    Bytes, BytesFault, Failed, Files, Gave, Link, Name, NameFault, Net, Opened, SimTime, Sink,
-    Text, Took, one_more,
+    Bytes, BytesFault, ExitStatus, Failed, Files, Gave, Line, Link, Name, NameFault, Net, Opened,
+    SimTime, Sink, Text, Took, one_more,
 };
 use std::process::Abort;
 use std::test::Fail;
@@ -49,6 +49,27 @@ fn made_names(rt: HostRuntime) -> Result<(), Fail> {
         let again = Name::from_utf8(alloc, text.as_bytes())?.ok_or("none")?;
         assert_eq!(rt; again.as_str(), text);
     }
+    Ok(())
+}
+
+#[test]
+fn names_that_are_one(rt: HostRuntime) -> Result<(), Fail> {
+    let alloc = rt.alloc();
+    let name = Name::new(alloc, "A")?;
+    assert!(rt; name.is(&name.copy(alloc)?));
+    assert!(rt; name.is(&Name::new(alloc, "A")?));
+    for other in ["a", "AB", "B"] {
+        assert!(rt; !name.is(&Name::new(alloc, other)?));
+    }
+    Ok(())
+}
+
+#[test]
+fn a_line_and_a_status(rt: HostRuntime) -> Result<(), Fail> {
+    let line = Line::new(String::from_str(rt.alloc(), "left A")?);
+    assert_eq!(rt; line.as_str(), "left A");
+    assert_eq!(rt; ExitStatus::Done.number(), 0);
+    assert_eq!(rt; ExitStatus::Unlawful.number(), 13);
     Ok(())
 }
 
@@ -189,6 +210,24 @@ fn a_sink_keeps_what_it_took(rt: HostRuntime) -> Result<(), Fail> {
     assert!(rt; sink.flush() == Ok(()));
     assert_eq!(rt; sink.written().len(), 65);
     assert!(rt; sink.written().ends_with(b"c"));
+    Ok(())
+}
+
+/// Stands only where values of the type may be handed to other threads.
+fn may_be_sent<T: Send>(_value: &T) {}
+
+/// A copy stands on its own when the first is gone.
+#[test]
+fn copies_outlive_the_first(rt: HostRuntime) -> Result<(), Fail> {
+    let alloc = rt.alloc();
+    let (name, bytes) = (Name::new(alloc, "A")?, Bytes::new(alloc, b"\x01\x02")?);
+    may_be_sent(&name);
+    may_be_sent(&bytes);
+    let (same, again) = (name.copy(alloc)?, bytes.copy(alloc)?);
+    drop(name);
+    drop(bytes);
+    assert_eq!(rt; same.as_str(), "A");
+    assert_eq!(rt; again.as_slice(), b"\x01\x02".as_slice());
     Ok(())
 }
 

@@ -6,6 +6,8 @@
 #[cfg(test)]
 mod base;
 #[cfg(test)]
+mod matching;
+#[cfg(test)]
 mod msg;
 #[cfg(test)]
 mod wire;

@@ -673,16 +673,10 @@ fn fields_of_a_frame(rt: HostRuntime) -> Result<(), Fail> {
     let can =
         b"\x1e\x00\x00\x00\x01\x09\x01\x00\x00\x00\x03\x00\x00\x00\x00\x00\x00\x00\x02\x00\x00\x00\x00\x00\x00\x00\x23\x01\x00\x00\x02\x01\x00\x77";
     let fed = Decoder::new(rt.alloc()).feed(can)?;
-    let Content::Can {
-        service,
-        stamp,
-        mark,
-        frame,
-    } = fed.messages.first().ok_or("none")?.content()
-    else {
+    let Content::Can { head, frame } = fed.messages.first().ok_or("none")?.content() else {
         return Err(Fail::new("no Can"));
     };
-    assert!(rt; *service == 1 && stamp.ns() == 3 && *mark == 2);
+    assert!(rt; head.service == 1 && head.stamp.ns() == 3 && head.mark == 2);
     assert!(rt; frame.id == 0x123 && !frame.extended && frame.fd);
     assert_eq!(rt; frame.payload.as_slice(), b"\x77".as_slice());
     Ok(())

@@ -26,7 +26,7 @@ map-lacking n change (x ∷ xs) h =
     let head : eqb x.number n ≡ false = ne_eqb x.number n (h 0 (omega arith)) in
     rw (head, map-lacking n change xs (λ k l. h (suc k) (omega arith))) refl
 
--- at each place but i stands another number
+-- at each index but i stands another number
 abbrev IsOnlyAt : ℕ → List PeerNotes → ℕ → Type 0
 IsOnlyAt n peers i = (k : ℕ) → k < length peers → k ≢ i → get_or (numbers_of peers) k 0 ≢ n
 
@@ -50,7 +50,7 @@ only_at n peers i rising in' here k l ne e =
       | inr above ↦ omega (arith, rises i k 0 (omega arith) (omega arith))
     ]
 
--- the entry at the place i is this one, and has this number
+-- the entry at the index i is this one, and has this number
 pub record Stands (peers : List PeerNotes) (n i : ℕ) (peer : PeerNotes) : Type 0 where
   pub rising : IsStrictlyIncreasing (numbers_of peers)
   pub within : i < length peers
@@ -62,7 +62,7 @@ pub stands : {slice peers : List PeerNotes} {n i : ℕ} {peer : PeerNotes} → s
 stands same rising within found is =
     record { rising = rising; within = rw (← same) within; found = rw (← same) found; is = is }
 
--- a change at the place is the change at the number
+-- a change at the index is the change at the number
 pub set-stands : {peers : List PeerNotes} {n i : ℕ} {old : PeerNotes} (change : PeerNotes → PeerNotes) (new : PeerNotes) → Stands peers n i old → new ≡ change old →
     set peers i new ≡ map (at_number n change) peers
 set-stands {peers} {n} {i} {old} change new s is_new =
@@ -95,15 +95,15 @@ find-only n (x ∷ xs) (suc i) d only in' here =
     let head : eqb x.number n ≡ false = ne_eqb x.number n (only 0 (omega arith) (omega arith)) in
     rw (head, find-only n xs i d (λ k l ne. only (suc k) (omega arith) (omega arith)) (omega arith) here) refl
 
--- a look-up by the number finds the entry at the place
+-- a look-up by the number finds the entry at the index
 pub announced-stands : {peers : List PeerNotes} {n i : ℕ} {peer : PeerNotes} → Stands peers n i peer →
     option_and_then (λ other. other.announced) (find (λ other. eqb other.number n) peers) ≡ peer.announced
 announced-stands {peers} {n} {i} {peer} s =
     rw (find-only n peers i peer (only_at n peers i s.rising s.within s.found) s.within s.found, ← s.is) refl
 
 -- a search for a number that is there finds it
-pub is_found : (peers : List PeerNotes) (n : ℕ) (place : Option ℕ) (P : ℕ → Type 0) → Contains (numbers_of peers) n →
-    MatchOption place (AllWithin (λ peer. peer.number ≢ n) peers 0 (length peers)) P → IsSome place
+pub is_found : (peers : List PeerNotes) (n : ℕ) (index : Option ℕ) (P : ℕ → Type 0) → Contains (numbers_of peers) n →
+    MatchOption index (AllWithin (λ peer. peer.number ≢ n) peers 0 (length peers)) P → IsSome index
 is_found [] n None P has none = absurd (omega (arith, has.1))
 is_found (x ∷ xs) n None P has none =
     let long : length (numbers_of (x ∷ xs)) ≡ length (x ∷ xs) = rw length-map refl in

@@ -1,5 +1,5 @@
 -- What was noted so far: the own steps, and each peer.
-use Rattle.std.specs.Prelude.{◌≡◌, ◌≤◌, ◌*◌, ◌^◌, ◌==◌, ℕ, Bool, true, false, Option, Some, None, option_and_then, List, map, find, if◌then◌else◌}
+use Rattle.std.specs.Prelude.{◌≡◌, ◌<◌, ◌+◌, ◌≤◌, ◌*◌, ◌^◌, ◌==◌, ℕ, Bool, true, false, Option, Some, None, option_and_then, List, map, find, if◌then◌else◌}
 use Rattle.std.specs.List.Sorted.{IsStrictlyIncreasing}
 
 -- of one peer
@@ -63,4 +63,5 @@ pub record IsKept (notes : Notes) : Type 0 where
   pub timed : notes.next ≡ notes.begun * notes.size
   -- no step is shorter than a nanosecond, so at most so many were begun
   pub counted : notes.begun ≤ notes.next
-  pub latest : notes.next ≤ 2 ^ 62
+  -- so that the time behind it is one too
+  pub latest : notes.next < 2 ^ 61 + 2 ^ 60

@@ -21,23 +21,27 @@ pub fn one_answer()
 
 /// The answer is Yes exactly where no step is open and no peer holds the next one up.
 pub fn yes_exactly()
-    ensures { (notes : Notes) (answer : MayBegin) → IsStrictlyIncreasing (numbers notes) → Answers notes answer →
+    ensures { (notes : Notes) (answer : MayBegin) →
+        IsStrictlyIncreasing (numbers notes) → Answers notes answer →
         (answer ≡ Yes notes.next)
-        ↔ ((notes.is_open ≡ false) × ((peer : PeerNotes) → Contains notes.peers peer → HoldsUp notes.next peer → ⊥)) }
+        ↔ ((notes.is_open ≡ false)
+        × ((peer : PeerNotes) → Contains notes.peers peer → HoldsUp notes.next peer → ⊥)) }
 {}
 
 /// A known peer that has left counts no more: the answer is the one without it.
 pub fn left_counts_no_more()
     ensures { (notes : Notes) (before after : List PeerNotes) (peer : PeerNotes) (answer : MayBegin) →
         IsSome peer.synchronised → peer.left ≡ true →
-        Answers (record notes { peers = before ++ peer ∷ after }) answer ↔ Answers (record notes { peers = before ++ after }) answer }
+        Answers (record notes { peers = before ++ peer ∷ after }) answer
+        ↔ Answers (record notes { peers = before ++ after }) answer }
 {}
 
 /// A peer that isn't synchronised never counts, whatever else was noted of it.
 pub fn unsynchronised_never_counts()
     ensures { (notes : Notes) (before after : List PeerNotes) (peer : PeerNotes) (answer : MayBegin) →
         peer.synchronised ≡ Some false →
-        Answers (record notes { peers = before ++ peer ∷ after }) answer ↔ Answers (record notes { peers = before ++ after }) answer }
+        Answers (record notes { peers = before ++ peer ∷ after }) answer
+        ↔ Answers (record notes { peers = before ++ after }) answer }
 {}
 
 /// Of each peer the last announcement counts, and no other note changes it.

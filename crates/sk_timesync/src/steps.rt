@@ -42,7 +42,8 @@ impl Steps {
     pub fn new(alloc: Global, size: u64) -> Steps
         requires least { 1 ≤ size }
         requires most { size ≤ 2 ^ 60 }
-        ensures noted { result ≡ record { size = size; begun = 0; is_open = false; next = 0; peers = [] } }
+        ensures noted { result
+            ≡ record { size = size; begun = 0; is_open = false; next = 0; peers = [] } }
         ensures fresh { IsFresh result }
     {
         Steps {
@@ -59,7 +60,8 @@ impl Steps {
     pub fn add_peer(&mut self, peer: u32) -> Result<(), WantOfMemory>
         requires fresh { IsFresh self.old }
         requires rising { All (λ number. number < peer) (numbers self.old) }
-        ensures noted { OnOk result (self.new ≡ record self.old { peers = self.old.peers ++ unheard peer ∷ [] }) }
+        ensures noted { OnOk result
+            (self.new ≡ record self.old { peers = self.old.peers ++ unheard peer ∷ [] }) }
         ensures numbers { OnOk result (numbers self.new ≡ numbers self.old ++ peer ∷ []) }
         ensures same { OnErr result (self.new ≡ self.old) }
         ensures fresh { IsFresh self.new }
@@ -74,8 +76,8 @@ impl Steps {
         ensures noted { self.new ≡ with_peer peer (with_known synchronised) self.old }
         ensures numbers { numbers self.new ≡ numbers self.old }
     {
-        let place = place_of(&self.peers, peer);
-        self.peers[place].know(synchronised);
+        let index = index_of(&self.peers, peer);
+        self.peers[index].know(synchronised);
     }
 
     /// The peer announced that its next step is at this time. A time that isn't above its last
@@ -85,12 +87,13 @@ impl Steps {
         requires { Contains (numbers self.old) peer }
         ensures noted { OnOk result (self.new ≡ with_peer peer (with_announced at) self.old) }
         ensures rises { OnOk result (IfSome (announced_by self.old peer) (λ last. last < at)) }
-        ensures refused { IfErr result (λ last. (announced_by self.old peer ≡ Some last) × (at ≤ last)) }
+        ensures refused { IfErr result (λ last.
+            (announced_by self.old peer ≡ Some last) × (at ≤ last)) }
         ensures same { OnErr result (self.new ≡ self.old) }
         ensures numbers { numbers self.new ≡ numbers self.old }
     {
-        let place = place_of(&self.peers, peer);
-        self.peers[place].announce(at)
+        let index = index_of(&self.peers, peer);
+        self.peers[index].announce(at)
     }
 
     /// The peer has left.
@@ -99,8 +102,8 @@ impl Steps {
         ensures noted { self.new ≡ with_peer peer with_left self.old }
         ensures numbers { numbers self.new ≡ numbers self.old }
     {
-        let place = place_of(&self.peers, peer);
-        self.peers[place].leave();
+        let index = index_of(&self.peers, peer);
+        self.peers[index].leave();
     }
 
     /// Whether the next step may begin, by all that was noted.
@@ -123,7 +126,11 @@ impl Steps {
     pub fn begin(&mut self) -> u64
         requires clear { IsClear self.old }
         requires early { self.old.next < 2 ^ 61 }
-        ensures noted { self.new ≡ record self.old { begun = self.old.begun + 1; is_open = true; next = self.old.next + self.old.size } }
+        ensures noted { self.new ≡ record self.old {
+          begun = self.old.begun + 1;
+          is_open = true;
+          next = self.old.next + self.old.size;
+        } }
         ensures number { result ≡ self.new.begun }
     {
         self.begun += 1;
@@ -137,15 +144,18 @@ impl Steps {
         requires { self.old.is_open ≡ true }
         ensures noted { self.new ≡ record self.old { is_open = false } }
         ensures next { result ≡ self.new.next }
+        ensures latest { result < 2 ^ 61 + 2 ^ 60 }
     {
         self.is_open = false;
         self.next
     }
 
     /// When the next step begins, in nanoseconds of virtual time: at 0 before the first one, else
-    /// a step size behind the last one that was begun, also while that one is open.
+    /// a step size behind the last one that was begun, also while that one is open. It is so far
+    /// below 2^62 that the time behind it is one too.
     pub fn next(&self) -> SimTime
         ensures next { result ≡ self.now.next }
+        ensures latest { result < 2 ^ 61 + 2 ^ 60 }
         ensures kept { IsKept self.now }
     {
         self.next
@@ -153,7 +163,7 @@ impl Steps {
 }
 
 /// Where the peer of this number stands.
-fn place_of(peers: &[Peer], number: u32) -> usize
+fn index_of(peers: &[Peer], number: u32) -> usize
     requires { Contains (map (λ peer. peer.number) peers.now) number }
     ensures within { result < length peers.now }
     ensures found { slice_index (map (λ peer. peer.number) peers.now) result ≡ number }
@@ -168,8 +178,8 @@ fn place_of(peers: &[Peer], number: u32) -> usize
 fn first_to_hold_up(peers: &[Peer], at: SimTime) -> Option<&Peer>
     ensures none { IfNone result (All (IsReady at) peers.now) }
     ensures holds { IfSome result (λ peer. HoldsUp at peer.now) }
-    ensures place { IfSome result (λ peer.
-        (place : ℕ) × (slice_get peers.now place ≡ Some peer.now) × All (IsReady at) (take place peers.now)) }
+    ensures index { IfSome result (λ peer.
+        (index : ℕ) × (slice_get peers.now index ≡ Some peer.now) × All (IsReady at) (take index peers.now)) }
 {
     peers.iter().find(|peer| peer.holds_up(at))
 }

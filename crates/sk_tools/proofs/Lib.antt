@@ -1,11 +1,4 @@
-pub mod CountLaws
-pub mod FrameLaws
-pub mod PieceLaws
-pub mod HearingLaws
-pub mod GrowthLaws
-pub mod TalkLaws
-pub mod SessionLaws
-pub mod TopLaws
-pub mod Examples
 pub mod OutsideLaws
 pub mod OfflineLaws
+pub mod CallLaws
+pub mod TopLaws

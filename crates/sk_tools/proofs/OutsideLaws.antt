@@ -8,8 +8,8 @@ use Rattle.std.proofs.Math.Seq.{take-add, take-length}
 use Rattle.std.proofs.lemmas.List.{take-append-drop}
 use Rattle.sk_base.specs.Reading.{ReadsFrom}
 use Rattle.sk_tools.specs.Outside.{IsReadTo, IsContent, Explains, IsPartWritten}
-use Rattle.sk_tools.specs.declared.reading.Unread.{Unread}
-use Rattle.sk_tools.specs.declared.reading.Unread.TheVariants.{Absent}
+use Rattle.sk_tools.specs.declared.outside.reading.ReadRefused.{ReadRefused}
+use Rattle.sk_tools.specs.declared.outside.reading.ReadRefused.TheVariants.{Absent}
 
 -- one more piece
 pub read_more : (all bytes buffer : List ℕ) (count before now : ℕ) → IsReadTo all before bytes → ReadsFrom count all before buffer now
@@ -46,7 +46,7 @@ written_more before now rest text part count whole is = (
 -- ## A whole file
 
 -- what is said of every content that is there holds of the one that is
-pub by_content : {A : Type 0} (items : A → List ℕ) (o : Option (List ℕ)) (result : Result A Unread) → IsSome o
+pub by_content : {A : Type 0} (items : A → List ℕ) (o : Option (List ℕ)) (result : Result A ReadRefused) → IsSome o
     → ((all : List ℕ) → o ≡ Some all →
     MatchResult result (λ bytes. IsContent (Some all) (items bytes)) (λ why. (why ≢ Absent) × Explains (Some all) why))
     → MatchResult result (λ bytes. IsContent o (items bytes)) (Explains o)

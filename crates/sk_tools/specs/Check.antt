@@ -1,103 +1,109 @@
--- What `check` answers and writes, by what its file holds.
-use Rattle.std.specs.Prelude.{◌≡◌, ◌^◌, ◌++◌, ℕ, Bool, true, false, nat_lt, Option, Some, None, Result, Ok, Err, List, [], length, codes, if◌then◌else◌}
-use Rattle.std.specs.List.{flat_map}
+-- What `check` answers, writes and says, by what its file holds.
+use Rattle.std.specs.Prelude.{◌≡◌, ◌++◌, ℕ, true, false, ◌==◌, List, [], ◌∷◌, codes, IsTrue, if◌then◌else◌}
+use Rattle.std.specs.List.{flat_map, list_any}
+use Rattle.sk_base.specs.Talk.{Rose}
+use Rattle.sk_base.specs.declared.status.ExitStatus.{ExitStatus}
+use Rattle.sk_base.specs.declared.status.ExitStatus.TheVariants as exit
 use Rattle.sk_config.specs.declared.config.ConfigRead.{ConfigRead}
 use Rattle.sk_config.specs.declared.fault.ConfigFault.{ConfigFault}
 use Rattle.sk_config.specs.declared.warning.Warning.{Warning}
-use Rattle.sk_config.specs.Reading.{reading}
 use Rattle.sk_config.specs.Written.{canonical}
 use Rattle.sk_config.specs.Warned.{warning_text, fault_path, fault_rule}
 use Rattle.sk_tools.specs.Outside.{IsPartWritten}
-use Rattle.sk_tools.specs.declared.reading.Unread.{Unread}
-use Rattle.sk_tools.specs.declared.reading.Unread.TheVariants as unread
-use Rattle.sk_tools.specs.declared.checked.Checked.{Checked}
-use Rattle.sk_tools.specs.declared.checked.Checked.TheVariants.{Done, Refused, ReadFault, WriteFault, Memory}
+use Rattle.sk_tools.specs.Found.{Found, Absent, TooLong, Faulty, Valid, is_valid, line, complaint, remarks_by}
+use Rattle.sk_tools.specs.declared.outside.reading.ReadRefused.{ReadRefused}
+use Rattle.sk_tools.specs.declared.outside.reading.ReadRefused.TheVariants as refused
+use Rattle.sk_tools.specs.declared.check.status.CheckStatus.{CheckStatus}
+use Rattle.sk_tools.specs.declared.check.status.CheckStatus.TheVariants.{Done, BadFile, ReadFault, WriteFault, OutOfMemory}
 
--- what a path leads to: no file, one that is too long, one with a fault, or a configuration
-pub data Found : Type 0 where
-  NoFile : Found
-  Oversized : Found
-  Faulty : ConfigFault → Found
-  Sound : ConfigRead → Found
+-- what a path leads to, read as a configuration
+abbrev pub FoundConfig : Type 0
+FoundConfig = Found ConfigFault ConfigRead
 
-abbrev pub found_by : Result ConfigRead ConfigFault → Found
-found_by (Ok read) = Sound read
-found_by (Err fault) = Faulty fault
+-- a configuration
+abbrev pub valid_config : ConfigRead → FoundConfig
+valid_config read = Valid read
 
--- the content of a path is judged: its length, at most 16,777,216 bytes, and then what it says
-unfoldable pub found_in : Option (List ℕ) → Found
-found_in None = NoFile
-found_in (Some bytes) = if nat_lt (2 ^ 24) (length bytes) then Oversized else found_by (reading bytes)
-
--- ## Lines
-
-abbrev pub line : List ℕ → List ℕ
-line text = text ++ codes "\n"
-
--- about something: what is wrong
-abbrev pub complaint : List ℕ → List ℕ → List ℕ
-complaint about wrong = codes "silkit: " ++ about ++ codes ": " ++ wrong ++ codes "\n"
+-- ## What is said and written
 
 abbrev pub warning_lines : List Warning → List ℕ
 warning_lines warnings = flat_map (λ warning. line (warning_text warning)) warnings
 
--- ## What is written
-
 -- on the output
-abbrev pub checked_text : Found → List ℕ
-checked_text NoFile = []
-checked_text Oversized = []
+abbrev pub checked_text : FoundConfig → List ℕ
+checked_text Absent = []
+checked_text TooLong = []
 checked_text (Faulty fault) = []
-checked_text (Sound read) = line (canonical read.config)
+checked_text (Valid read) = line (canonical read.config)
 
 -- on standard error: of what was found
-abbrev pub remarks : List ℕ → Found → List ℕ
-remarks file NoFile = complaint file (codes "no such file")
-remarks file Oversized = complaint file (codes "more than 16777216 bytes")
-remarks file (Faulty fault) = complaint (fault_path fault) (fault_rule fault)
-remarks file (Sound read) = warning_lines read.warnings
+abbrev pub remarks : List ℕ → FoundConfig → List ℕ
+remarks file found =
+    remarks_by (λ (fault : ConfigFault). complaint (fault_path fault) (fault_rule fault)) (λ (read : ConfigRead). warning_lines read.warnings) file found
 
 -- and of how it ended; nothing is said here of want of memory
-abbrev pub said_of : List ℕ → Found → Checked → List ℕ
+abbrev pub said_of : List ℕ → FoundConfig → CheckStatus → List ℕ
 said_of file found Done = remarks file found
-said_of file found Refused = remarks file found
+said_of file found BadFile = remarks file found
 said_of file found ReadFault = complaint (codes "read fault") file
 said_of file found WriteFault = remarks file found ++ line (codes "silkit: write fault")
-said_of file found Memory = []
+said_of file found OutOfMemory = []
 
--- of a file that wasn't read
-abbrev pub said_unread : List ℕ → Unread → List ℕ
-said_unread file unread.Absent = complaint file (codes "no such file")
-said_unread file unread.TooLong = complaint file (codes "more than 16777216 bytes")
-said_unread file unread.Fault = complaint (codes "read fault") file
-said_unread file unread.WantOfMemory = []
+-- the same by the number that is answered
+abbrev pub said_by : List ℕ → FoundConfig → ℕ → List ℕ
+said_by file found answer =
+    if answer == 3 then complaint (codes "read fault") file else
+    if answer == 4 then remarks file found ++ line (codes "silkit: write fault") else
+    remarks file found
 
 -- ## How it ends
 
-abbrev pub EndsUnread : Unread → Checked → Type 0
-EndsUnread unread.Absent ended = ended ≡ Refused
-EndsUnread unread.TooLong ended = ended ≡ Refused
-EndsUnread unread.Fault ended = ended ≡ ReadFault
-EndsUnread unread.WantOfMemory ended = ended ≡ Memory
+abbrev pub exit_of : CheckStatus → ExitStatus
+exit_of Done = exit.Done
+exit_of BadFile = exit.BadFile
+exit_of ReadFault = exit.ReadFault
+exit_of WriteFault = exit.WriteFault
+exit_of OutOfMemory = exit.OutOfMemory
 
-abbrev pub is_sound : Found → Bool
-is_sound NoFile = false
-is_sound Oversized = false
-is_sound (Faulty fault) = false
-is_sound (Sound read) = true
+-- with one of these numbers
+abbrev pub IsCheckStatus : ℕ → Type 0
+IsCheckStatus answer = IsTrue (list_any (λ status. status == answer) (0 ∷ 1 ∷ 3 ∷ 4 ∷ 5 ∷ []))
 
--- a configuration is written or its writing fails, and everything else is refused, unless reading failed or memory ran out
-abbrev pub MayEnd : Found → Checked → Type 0
-MayEnd found Done = is_sound found ≡ true
-MayEnd found Refused = is_sound found ≡ false
+-- of a file that wasn't read
+abbrev pub EndsUnread : ReadRefused → CheckStatus → Type 0
+EndsUnread refused.Absent ended = ended ≡ BadFile
+EndsUnread refused.TooLong ended = ended ≡ BadFile
+EndsUnread refused.Fault ended = ended ≡ ReadFault
+EndsUnread refused.WantOfMemory ended = ended ≡ OutOfMemory
+
+-- what is valid is written or its writing fails, and everything else is refused, unless reading failed or memory ran out
+abbrev pub MayEnd : FoundConfig → CheckStatus → Type 0
+MayEnd found Done = is_valid found ≡ true
+MayEnd found BadFile = is_valid found ≡ false
 MayEnd found ReadFault = Unit {0}
-MayEnd found WriteFault = is_sound found ≡ true
-MayEnd found Memory = Unit {0}
+MayEnd found WriteFault = is_valid found ≡ true
+MayEnd found OutOfMemory = Unit {0}
 
 -- what stands on the output then: all of the text, a part of it, or nothing new
-abbrev pub Leaves : Checked → List ℕ → List ℕ → List ℕ → Type 0
+abbrev pub Leaves : CheckStatus → List ℕ → List ℕ → List ℕ → Type 0
 Leaves Done text before now = now ≡ before ++ text
-Leaves Refused text before now = now ≡ before
+Leaves BadFile text before now = now ≡ before
 Leaves ReadFault text before now = now ≡ before
 Leaves WriteFault text before now = IsPartWritten before now text
-Leaves Memory text before now = now ≡ before
+Leaves OutOfMemory text before now = now ≡ before
+
+-- the count of the files' faults rose with ReadFault, and with nothing else
+abbrev pub CountsReads : CheckStatus → ℕ → ℕ → Type 0
+CountsReads Done before now = now ≡ before
+CountsReads BadFile before now = now ≡ before
+CountsReads ReadFault before now = Rose before now
+CountsReads WriteFault before now = now ≡ before
+CountsReads OutOfMemory before now = now ≡ before
+
+-- and that of the output's with WriteFault
+abbrev pub CountsWrites : CheckStatus → ℕ → ℕ → Type 0
+CountsWrites Done before now = now ≡ before
+CountsWrites BadFile before now = now ≡ before
+CountsWrites ReadFault before now = now ≡ before
+CountsWrites WriteFault before now = Rose before now
+CountsWrites OutOfMemory before now = now ≡ before

@@ -1,9 +1,9 @@
 -- What reading a whole file and writing a whole text leave of the outside.
 use Rattle.std.specs.Prelude.{◌≡◌, ◌≤◌, ◌<◌, ◌^◌, ◌-◌, ◌++◌, ℕ, Bool, true, Option, Some, None, IsSomeAnd, List, length, take}
 use Rattle.sk_base.specs.Talk.{Rose}
-use Rattle.sk_tools.specs.Run.{IsPrefixOf}
-use Rattle.sk_tools.specs.declared.reading.Unread.{Unread}
-use Rattle.sk_tools.specs.declared.reading.Unread.TheVariants.{Absent, TooLong, Fault, WantOfMemory}
+use mathlib.Core.List.{IsPrefix}
+use Rattle.sk_tools.specs.declared.outside.reading.ReadRefused.{ReadRefused}
+use Rattle.sk_tools.specs.declared.outside.reading.ReadRefused.TheVariants.{Absent, TooLong, Fault, WantOfMemory}
 
 -- ## Reading
 
@@ -14,7 +14,7 @@ pub record IsReadTo (all : List ℕ) (place : ℕ) (bytes : List ℕ) : Type 0 w
   pub count : length bytes ≡ place
 
 -- why a file of this content wasn't read
-abbrev pub Explains : Option (List ℕ) → Unread → Type 0
+abbrev pub Explains : Option (List ℕ) → ReadRefused → Type 0
 Explains content Absent = content ≡ None
 Explains content TooLong = IsSomeAnd content (λ bytes. 2 ^ 24 < length bytes)
 Explains content Fault = Unit {0}
@@ -25,17 +25,17 @@ abbrev pub IsContent : Option (List ℕ) → List ℕ → Type 0
 IsContent content bytes = (content ≡ Some bytes) × (length bytes ≤ 2 ^ 24)
 
 -- the count of faults rose where the answer is Fault, and stands still everywhere else
-abbrev pub CountsUnread : ℕ → ℕ → Unread → Type 0
-CountsUnread before now Absent = now ≡ before
-CountsUnread before now TooLong = now ≡ before
-CountsUnread before now Fault = Rose before now
-CountsUnread before now WantOfMemory = now ≡ before
+abbrev pub CountsRefused : ℕ → ℕ → ReadRefused → Type 0
+CountsRefused before now Absent = now ≡ before
+CountsRefused before now TooLong = now ≡ before
+CountsRefused before now Fault = Rose before now
+CountsRefused before now WantOfMemory = now ≡ before
 
 -- ## Writing
 
 -- a part of the text was written
 abbrev pub IsPartWritten : List ℕ → List ℕ → List ℕ → Type 0
-IsPartWritten before now text = (part : List ℕ) × IsPrefixOf part text × (now ≡ before ++ part)
+IsPartWritten before now text = (part : List ℕ) × IsPrefix part text × (now ≡ before ++ part)
 
 -- the count tells of no fault: it is the same, and not so high that it stands still
 pub record HasNoFault (before now : ℕ) : Type 0 where

@@ -1,18 +1,21 @@
--- What the top call answers.
+-- What the status of `pipe` says.
 use Rattle.std.specs.Prelude.{◌≡◌, ◌⊎◌, ℕ, ◌==◌, Bool, true, Option, Some, None, List, [], ◌∷◌, length, drop, IsTrue}
 use Rattle.std.specs.List.{list_any}
 use Rattle.sk_base.specs.Talk.{Said}
-use Rattle.sk_tools.specs.Words.{Job, job_of}
-use Rattle.sk_tools.specs.declared.status.Status.{Status}
-use Rattle.sk_tools.specs.declared.status.Status.TheVariants as status
+use Rattle.sk_base.specs.declared.status.ExitStatus.{ExitStatus}
+use Rattle.sk_base.specs.declared.status.ExitStatus.TheVariants as exit
+use Rattle.sk_tools.specs.Words.{PipePlan, plan_of}
+use Rattle.sk_pipe.specs.declared.ending.PipeEnding.{PipeEnding}
+use Rattle.sk_pipe.specs.declared.ending.PipeEnding.TheVariants as endings
 
-abbrev pub status_number : Status → ℕ
-status_number status.Done = 0
-status_number status.LinkFault = 4
-status_number status.Memory = 5
-status_number status.Limit = 8
-status_number status.BadInput = 10
-status_number status.NoLeave = 11
+-- how `pipe` ends
+abbrev pub pipe_exit : PipeEnding → ExitStatus
+pipe_exit endings.Left = exit.Done
+pipe_exit endings.LinkFault = exit.WriteFault
+pipe_exit endings.Memory = exit.OutOfMemory
+pipe_exit endings.Limit = exit.Limit
+pipe_exit endings.BadInput = exit.BadInput
+pipe_exit endings.NoLeave = exit.EndedEarly
 
 -- `pipe` ends with one of these
 abbrev pub IsPipeStatus : ℕ → Type 0
@@ -23,12 +26,8 @@ abbrev pub said_since : List Said → List Said → List Said
 said_since before now = drop (length before) now
 
 -- on a link that tells its talk, where the words have a reading: this holds of that plan and of what was said in this call
-abbrev pub InRun : Bool → List (List ℕ) → List Said → List Said → (Job → List Said → Type 0) → Type 0
-InRun tells words before now P = tells ≡ true → (job : Job) → job_of words ≡ Some job → P job (said_since before now)
-
--- status 2 comes exactly where the words have no reading, unless memory ran out
-abbrev pub IsUsage : {A : Type 0} → Option A → ℕ → Type 0
-IsUsage reading answer = (answer ≡ 2 → reading ≡ None) × (reading ≡ None → (answer ≡ 2) ⊎ (answer ≡ 5))
+abbrev pub InRun : List (List ℕ) → Bool → List Said → List Said → (PipePlan → List Said → Type 0) → Type 0
+InRun words tells before now P = tells ≡ true → (plan : PipePlan) → plan_of words ≡ Some plan → P plan (said_since before now)
 
 -- the run was stopped: by a fault of the link, want of memory, or a bound
 abbrev pub IsStopped : ℕ → Type 0

@@ -41,7 +41,7 @@ is_command name (word ∷ words) = bytes_eq word name
 -- ## `pipe NAME STEP DURATION`
 
 -- the plan of a run
-pub record Job : Type 0 where
+pub record PipePlan : Type 0 where
   pub name : List ℕ
   pub step : ℕ
   pub duration : ℕ
@@ -52,20 +52,20 @@ is_number low high text =
     nat_lt 0 (length text) && list_all is_ascii_digit text && nat_le low (digits_value 10 text) && nat_le (digits_value 10 text) high
 
 -- NAME is a name, STEP is from 1 to 2^60, DURATION from 0 to 2^61
-abbrev pub job_from : Text → Text → Text → Option Job
-job_from name step duration =
+abbrev pub plan_from : Text → Text → Text → Option PipePlan
+plan_from name step duration =
     if is_name name && is_number 1 (2 ^ 60) step && is_number 0 (2 ^ 61) duration
     then Some (record { name = name; step = digits_value 10 step; duration = digits_value 10 duration })
     else None
 
-abbrev pub job_in : List Row → Option Job
-job_in rows =
-    option_and_then (λ name. option_and_then (λ step. option_and_then (λ duration. job_from name step duration)
+abbrev pub plan_in : List Row → Option PipePlan
+plan_in rows =
+    option_and_then (λ name. option_and_then (λ step. option_and_then (λ duration. plan_from name step duration)
     (value_of rows (codes "DURATION"))) (value_of rows (codes "STEP"))) (value_of rows (codes "NAME"))
 
-abbrev pub job_of : List Text → Option Job
-job_of words =
-    if is_command (codes "pipe") words && takes_words pipe_app words then job_in (rows_read pipe_app words) else None
+abbrev pub plan_of : List Text → Option PipePlan
+plan_of words =
+    if is_command (codes "pipe") words && takes_words pipe_app words then plan_in (rows_read pipe_app words) else None
 
 -- ## `check FILE`
 

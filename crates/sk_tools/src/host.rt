@@ -2,7 +2,8 @@
 
 ghost use Rattle.std.specs.Prelude.{◌≡◌, true, false, codes, map, string_bytes};
 ghost use Rattle.sk_tools.specs.Words as words_of;
-ghost use Rattle.sk_tools.specs.Program.{IsPipeCall, IsOfflineCall};
+ghost use Rattle.sk_tools.specs.PipeCall.{IsPipeCall};
+ghost use Rattle.sk_tools.specs.OfflineCall.{IsOfflineCall};
 
 use crate::offline::silkit_offline;
 use crate::pipe::silkit_pipe;
@@ -34,8 +35,15 @@ pub fn silkit<F: Files, O: Sink, E: Sink, L: Link, N: Net, I: Idle>(
     host: &mut Host<F, O, E, L, N, I>,
 ) -> u8
     ensures pipe { words_of.is_command (codes "pipe") (map string_bytes words.now) ≡ true →
-        IsPipeCall (map string_bytes words.now) (L.tells host.old.link) (L.talk host.old.link) (L.talk host.new.link)
-        (L.faults host.old.link) (L.faults host.new.link) result }
+        IsPipeCall (map string_bytes words.now)
+        (record {
+          tells = L.tells host.old.link;
+          faults = L.faults host.old.link;
+          faults_now = L.faults host.new.link;
+          talk = L.talk host.old.link;
+          talk_now = L.talk host.new.link;
+        })
+        result }
     ensures offline { words_of.is_command (codes "pipe") (map string_bytes words.now) ≡ false →
         IsOfflineCall (map string_bytes words.now)
         (record { tells = F.tells host.old.files; faults = F.faults host.old.files; faults_now = F.faults host.new.files; content = F.content host.old.files })

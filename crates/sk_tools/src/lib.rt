@@ -21,31 +21,16 @@
 #![tactic(auto)]
 
 mod check;
-#[cfg(test)]
-mod check_tests;
-mod check_words;
-mod checked;
 mod host;
 pub mod laws;
-mod lines;
 mod offline;
-mod peer;
-mod pieces;
+mod outside;
 mod pipe;
-#[cfg(test)]
-mod pipe_tests;
-mod pipe_words;
-mod plan;
-mod reading;
-mod session;
-mod status;
 #[cfg(test)]
 mod testing;
 mod words;
-mod writing;
 
 pub use host::{Host, silkit};
-pub use lines::{OUT_OF_MEMORY_LINE, USAGE_LINE};
 pub use offline::silkit_offline;
+pub use outside::{OUT_OF_MEMORY_LINE, USAGE_LINE};
 pub use pipe::silkit_pipe;
-pub use status::{OUT_OF_MEMORY, USAGE};

@@ -8,6 +8,9 @@ ghost use Rattle.sk_tools.specs.Words.{takes_words, rows_read, value_of, is_numb
 ghost use Rattle.sk_tools.specs.Words as words_of;
 ghost use Rattle.sk_tools.specs.declared.words.Refused.TheVariants.{WantOfMemory};
 
+pub mod check;
+pub mod pipe;
+
 use clap::error::ErrorKind;
 use clap::{Arg, ArgAction, ArgMatches, Command};
 use sk_base::is_digits;

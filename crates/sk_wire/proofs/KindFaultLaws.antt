@@ -10,6 +10,7 @@ use Rattle.sk_msg.specs.States.{state_number, state_of}
 use Rattle.sk_msg.specs.declared.state.State.{State}
 use Rattle.sk_msg.specs.declared.content.Content.{Content}
 use Rattle.sk_msg.specs.declared.content.Content.TheVariants.{Hello, Leave, NextStep, ServicesEnd, Status, Workflow, Abort, Eth, Publish, Call, Reply, Refuse}
+use Rattle.sk_msg.specs.declared.head.Head.{Head}
 use Rattle.sk_msg.specs.declared.role.Role.{Role}
 use Rattle.sk_msg.specs.declared.label.Label.{Label}
 use Rattle.sk_msg.specs.declared.label.LabelKind.{LabelKind}
@@ -21,13 +22,13 @@ use Rattle.sk_msg.specs.declared.reason.RefuseReason.{RefuseReason}
 use Rattle.sk_wire.specs.declared.fault.BodyFault.{BodyFault}
 use Rattle.sk_wire.specs.Reading.{bad}
 use Rattle.sk_wire.specs.Fields.{Field, ◌&◌, choice, such_that}
-use Rattle.sk_wire.specs.Kinds.{name, text, payload, any32, time, step_size, mark, call, role, role_number, role_of, service_id, service_kind, service_kind_number, service_kind_of, label_kind, label_kind_number, label_kind_of, lin_checksum, lin_checksum_number, lin_checksum_of, lin_status, lin_status_number, lin_status_of, lin_mode, lin_mode_number, lin_mode_of, reason, reason_number, reason_of, new_label, labels, state, new_name, required_names, Flags, flags_number, flags_of, can_flags, can_bytes, eth_bytes, lin_id, lin_bytes, hello_row, leave_row, next_step_row, service_add_row, services_end_row, status_row, workflow_row, abort_row, can_row, eth_row, lin_row, lin_response_row, publish_row, call_row, reply_row, refuse_row}
+use Rattle.sk_wire.specs.Kinds.{name, text, payload, any32, time, step_size, mark, head, call, role, role_number, role_of, service_id, service_kind, service_kind_number, service_kind_of, label_kind, label_kind_number, label_kind_of, lin_checksum, lin_checksum_number, lin_checksum_of, lin_status, lin_status_number, lin_status_of, lin_mode, lin_mode_number, lin_mode_of, reason, reason_number, reason_of, new_label, labels, state, new_name, required_names, Flags, flags_number, flags_of, can_flags, can_bytes, eth_bytes, lin_id, lin_bytes, hello_row, leave_row, next_step_row, service_add_row, services_end_row, status_row, workflow_row, abort_row, can_row, eth_row, lin_row, lin_response_row, publish_row, call_row, reply_row, refuse_row}
 use Rattle.sk_wire.specs.Held.{service_of, can_of, lin_of, response_of}
 use Rattle.sk_wire.specs.Grammar.{whole, hello_at, leave_at, next_step_at, service_add_at, services_end_at, status_at, workflow_at, abort_at, can_at, eth_at, lin_at, lin_response_at, publish_at, call_at, reply_at, refuse_at, fields_at, body_at}
 use Rattle.sk_wire.specs.Faults.{RowFaults, KindFaults, BodyFaults}
 use Rattle.sk_wire.specs.Stream.{AreBytes}
 use Rattle.sk_wire.proofs.FieldLaws.{Lawful, wide8, wide16, wide32, wide64}
-use Rattle.sk_wire.proofs.KindLaws.{name_lawful, text_lawful, payload_lawful, any32_lawful, time_lawful, mark_lawful, call_number_lawful, role_lawful, service_id_lawful, service_kind_lawful, lin_checksum_lawful, lin_status_lawful, lin_mode_lawful, any_state_lawful, state_lawful, can_flags_lawful, lin_id_lawful, new_key_lawful, new_label_lawful, new_name_lawful, hello_lawful, leave_lawful, next_step_lawful, service_add_lawful, services_end_lawful, status_lawful, workflow_lawful, abort_lawful, can_lawful, eth_lawful, lin_lawful, lin_response_lawful, publish_lawful, call_lawful, reply_lawful, refuse_lawful}
+use Rattle.sk_wire.proofs.KindLaws.{name_lawful, text_lawful, payload_lawful, any32_lawful, time_lawful, mark_lawful, head_lawful, call_number_lawful, role_lawful, service_id_lawful, service_kind_lawful, lin_checksum_lawful, lin_status_lawful, lin_mode_lawful, any_state_lawful, state_lawful, can_flags_lawful, lin_id_lawful, new_key_lawful, new_label_lawful, new_name_lawful, hello_lawful, leave_lawful, next_step_lawful, service_add_lawful, services_end_lawful, status_lawful, workflow_lawful, abort_lawful, can_lawful, eth_lawful, lin_lawful, lin_response_lawful, publish_lawful, call_lawful, reply_lawful, refuse_lawful}
 use Rattle.sk_wire.proofs.FaultLaws.{Judged, bind_err, test_err, number_judged, counted_judged, choice_judged, nothing_judged, then_judged, held_judged, such_that_judged, list_judged}
 
 -- ---- the types of fields
@@ -59,6 +60,14 @@ step_size_judged = number_judged w64 is_step_size wide64
 mark_judged : Judged ℕ mark
 unfolding mark
 mark_judged = number_judged w64 is_mark wide64
+
+head_judged : Judged Head head
+unfolding head
+head_judged =
+    held_judged (λ x. record { service = x.0; stamp = x.1.0; mark = x.1.1 }) (λ h. (h.service, (h.stamp, h.mark))) (any32 & λ service. time & λ stamp. mark)
+    (then_judged any32 (λ service. time & λ stamp. mark) 4 any32_lawful any32_judged (λ service.
+    then_judged time (λ stamp. mark) 8 time_lawful time_judged (λ stamp.
+    mark_judged)))
 
 call_number_judged : Judged ℕ call
 unfolding call
@@ -178,65 +187,51 @@ abort_judged : Judged (Unit {0}) abort_row
 abort_judged =
     nothing_judged
 
-can_judged : Judged (ℕ × (ℕ × (ℕ × (ℕ × (Flags × List ℕ))))) can_row
+can_judged : Judged (Head × (ℕ × (Flags × List ℕ))) can_row
 can_judged =
-    then_judged any32 (λ service. time & λ stamp. mark & λ mark. any32 & λ id. can_flags & λ f. can_bytes id f) 4 any32_lawful any32_judged (λ service.
-    then_judged time (λ stamp. mark & λ mark. any32 & λ id. can_flags & λ f. can_bytes id f) 8 time_lawful time_judged (λ stamp.
-    then_judged mark (λ mark. any32 & λ id. can_flags & λ f. can_bytes id f) 8 mark_lawful mark_judged (λ mark.
+    then_judged head (λ head. any32 & λ id. can_flags & λ f. can_bytes id f) 20 head_lawful head_judged (λ head.
     then_judged any32 (λ id. can_flags & λ f. can_bytes id f) 4 any32_lawful any32_judged (λ id.
     then_judged can_flags (λ f. can_bytes id f) 1 can_flags_lawful can_flags_judged (λ f.
-    can_bytes_judged id f)))))
+    can_bytes_judged id f)))
 
-eth_judged : Judged (ℕ × (ℕ × (ℕ × List ℕ))) eth_row
+eth_judged : Judged (Head × List ℕ) eth_row
 eth_judged =
-    then_judged any32 (λ service. time & λ stamp. mark & λ mark. eth_bytes) 4 any32_lawful any32_judged (λ service.
-    then_judged time (λ stamp. mark & λ mark. eth_bytes) 8 time_lawful time_judged (λ stamp.
-    then_judged mark (λ mark. eth_bytes) 8 mark_lawful mark_judged (λ mark.
-    eth_bytes_judged)))
+    then_judged head (λ head. eth_bytes) 20 head_lawful head_judged (λ head.
+    eth_bytes_judged)
 
-lin_judged : Judged (ℕ × (ℕ × (ℕ × (ℕ × (LinChecksum × (LinStatus × List ℕ)))))) lin_row
+lin_judged : Judged (Head × (ℕ × (LinChecksum × (LinStatus × List ℕ)))) lin_row
 lin_judged =
-    then_judged any32 (λ service. time & λ stamp. mark & λ mark. lin_id & λ id. lin_checksum & λ checksum. lin_status & λ status. lin_bytes (is_received status) checksum) 4 any32_lawful any32_judged (λ service.
-    then_judged time (λ stamp. mark & λ mark. lin_id & λ id. lin_checksum & λ checksum. lin_status & λ status. lin_bytes (is_received status) checksum) 8 time_lawful time_judged (λ stamp.
-    then_judged mark (λ mark. lin_id & λ id. lin_checksum & λ checksum. lin_status & λ status. lin_bytes (is_received status) checksum) 8 mark_lawful mark_judged (λ mark.
+    then_judged head (λ head. lin_id & λ id. lin_checksum & λ checksum. lin_status & λ status. lin_bytes (is_received status) checksum) 20 head_lawful head_judged (λ head.
     then_judged lin_id (λ id. lin_checksum & λ checksum. lin_status & λ status. lin_bytes (is_received status) checksum) 1 lin_id_lawful lin_id_judged (λ id.
     then_judged lin_checksum (λ checksum. lin_status & λ status. lin_bytes (is_received status) checksum) 1 lin_checksum_lawful lin_checksum_judged (λ checksum.
     then_judged lin_status (λ status. lin_bytes (is_received status) checksum) 1 lin_status_lawful lin_status_judged (λ status.
-    lin_bytes_judged (is_received status) checksum))))))
+    lin_bytes_judged (is_received status) checksum))))
 
-lin_response_judged : Judged (ℕ × (ℕ × (ℕ × (ℕ × (LinMode × (LinChecksum × List ℕ)))))) lin_response_row
+lin_response_judged : Judged (Head × (ℕ × (LinMode × (LinChecksum × List ℕ)))) lin_response_row
 lin_response_judged =
-    then_judged any32 (λ service. time & λ stamp. mark & λ mark. lin_id & λ id. lin_mode & λ mode. lin_checksum & λ checksum. lin_bytes (is_sent mode) checksum) 4 any32_lawful any32_judged (λ service.
-    then_judged time (λ stamp. mark & λ mark. lin_id & λ id. lin_mode & λ mode. lin_checksum & λ checksum. lin_bytes (is_sent mode) checksum) 8 time_lawful time_judged (λ stamp.
-    then_judged mark (λ mark. lin_id & λ id. lin_mode & λ mode. lin_checksum & λ checksum. lin_bytes (is_sent mode) checksum) 8 mark_lawful mark_judged (λ mark.
+    then_judged head (λ head. lin_id & λ id. lin_mode & λ mode. lin_checksum & λ checksum. lin_bytes (is_sent mode) checksum) 20 head_lawful head_judged (λ head.
     then_judged lin_id (λ id. lin_mode & λ mode. lin_checksum & λ checksum. lin_bytes (is_sent mode) checksum) 1 lin_id_lawful lin_id_judged (λ id.
     then_judged lin_mode (λ mode. lin_checksum & λ checksum. lin_bytes (is_sent mode) checksum) 1 lin_mode_lawful lin_mode_judged (λ mode.
     then_judged lin_checksum (λ checksum. lin_bytes (is_sent mode) checksum) 1 lin_checksum_lawful lin_checksum_judged (λ checksum.
-    lin_bytes_judged (is_sent mode) checksum))))))
+    lin_bytes_judged (is_sent mode) checksum))))
 
-publish_judged : Judged (ℕ × (ℕ × (ℕ × List ℕ))) publish_row
+publish_judged : Judged (Head × List ℕ) publish_row
 publish_judged =
-    then_judged any32 (λ service. time & λ stamp. mark & λ mark. payload) 4 any32_lawful any32_judged (λ service.
-    then_judged time (λ stamp. mark & λ mark. payload) 8 time_lawful time_judged (λ stamp.
-    then_judged mark (λ mark. payload) 8 mark_lawful mark_judged (λ mark.
-    payload_judged)))
+    then_judged head (λ head. payload) 20 head_lawful head_judged (λ head.
+    payload_judged)
 
-call_judged : Judged (ℕ × (ℕ × (ℕ × (ℕ × List ℕ)))) call_row
+call_judged : Judged (Head × (ℕ × List ℕ)) call_row
 call_judged =
-    then_judged any32 (λ service. time & λ stamp. mark & λ mark. call & λ call. payload) 4 any32_lawful any32_judged (λ service.
-    then_judged time (λ stamp. mark & λ mark. call & λ call. payload) 8 time_lawful time_judged (λ stamp.
-    then_judged mark (λ mark. call & λ call. payload) 8 mark_lawful mark_judged (λ mark.
+    then_judged head (λ head. call & λ call. payload) 20 head_lawful head_judged (λ head.
     then_judged call (λ call. payload) 8 call_number_lawful call_number_judged (λ call.
-    payload_judged))))
+    payload_judged))
 
-reply_judged : Judged (ℕ × (ℕ × (ℕ × (ℕ × (ℕ × List ℕ))))) reply_row
+reply_judged : Judged (Head × (ℕ × (ℕ × List ℕ))) reply_row
 reply_judged =
-    then_judged any32 (λ service. time & λ stamp. mark & λ mark. any32 & λ client. call & λ call. payload) 4 any32_lawful any32_judged (λ service.
-    then_judged time (λ stamp. mark & λ mark. any32 & λ client. call & λ call. payload) 8 time_lawful time_judged (λ stamp.
-    then_judged mark (λ mark. any32 & λ client. call & λ call. payload) 8 mark_lawful mark_judged (λ mark.
+    then_judged head (λ head. any32 & λ client. call & λ call. payload) 20 head_lawful head_judged (λ head.
     then_judged any32 (λ client. call & λ call. payload) 4 any32_lawful any32_judged (λ client.
     then_judged call (λ call. payload) 8 call_number_lawful call_number_judged (λ call.
-    payload_judged)))))
+    payload_judged)))
 
 refuse_judged : Judged (RefuseReason) refuse_row
 refuse_judged =
@@ -289,12 +284,12 @@ kind_fails kind bytes e fits =
     (fails_down (eqb kind 7) _ _ _ _ e (row_fails workflow_row 2081 workflow_lawful workflow_judged (λ x. Workflow x) bytes e fits)
     (fails_down (eqb kind 8) _ _ _ _ e (row_fails abort_row 0 abort_lawful abort_judged (λ x. Abort) bytes e fits)
     (fails_down (eqb kind 9) _ _ _ _ e (row_fails can_row 4123 can_lawful can_judged can_of bytes e fits)
-    (fails_down (eqb kind 10) _ _ _ _ e (row_fails eth_row 4118 eth_lawful eth_judged (λ x. Eth x.0 x.1.0 x.1.1.0 x.1.1.1) bytes e fits)
+    (fails_down (eqb kind 10) _ _ _ _ e (row_fails eth_row 4118 eth_lawful eth_judged (λ x. Eth x.0 x.1) bytes e fits)
     (fails_down (eqb kind 11) _ _ _ _ e (row_fails lin_row 4121 lin_lawful lin_judged lin_of bytes e fits)
     (fails_down (eqb kind 12) _ _ _ _ e (row_fails lin_response_row 4121 lin_response_lawful lin_response_judged response_of bytes e fits)
-    (fails_down (eqb kind 13) _ _ _ _ e (row_fails publish_row 4118 publish_lawful publish_judged (λ x. Publish x.0 x.1.0 x.1.1.0 x.1.1.1) bytes e fits)
-    (fails_down (eqb kind 14) _ _ _ _ e (row_fails call_row 4126 call_lawful call_judged (λ x. Call x.0 x.1.0 x.1.1.0 x.1.1.1.0 x.1.1.1.1) bytes e fits)
-    (fails_down (eqb kind 15) _ _ _ _ e (row_fails reply_row 4130 reply_lawful reply_judged (λ x. Reply x.0 x.1.0 x.1.1.0 x.1.1.1.0 x.1.1.1.1.0 x.1.1.1.1.1) bytes e fits)
+    (fails_down (eqb kind 13) _ _ _ _ e (row_fails publish_row 4118 publish_lawful publish_judged (λ x. Publish x.0 x.1) bytes e fits)
+    (fails_down (eqb kind 14) _ _ _ _ e (row_fails call_row 4126 call_lawful call_judged (λ x. Call x.0 x.1.0 x.1.1) bytes e fits)
+    (fails_down (eqb kind 15) _ _ _ _ e (row_fails reply_row 4130 reply_lawful reply_judged (λ x. Reply x.0 x.1.0 x.1.1.0 x.1.1.1) bytes e fits)
     (fails_down (eqb kind 16) _ _ _ _ e (row_fails refuse_row 1 refuse_lawful refuse_judged (λ x. Refuse x) bytes e fits)
     (λ h. err_same _ e h))))))))))))))))
 
@@ -310,12 +305,12 @@ kind_faulty kind bytes e =
     (faulty_down (eqb kind 7) _ _ _ _ e (row_faulty workflow_row 2081 workflow_lawful workflow_judged (λ x. Workflow x) bytes e)
     (faulty_down (eqb kind 8) _ _ _ _ e (row_faulty abort_row 0 abort_lawful abort_judged (λ x. Abort) bytes e)
     (faulty_down (eqb kind 9) _ _ _ _ e (row_faulty can_row 4123 can_lawful can_judged can_of bytes e)
-    (faulty_down (eqb kind 10) _ _ _ _ e (row_faulty eth_row 4118 eth_lawful eth_judged (λ x. Eth x.0 x.1.0 x.1.1.0 x.1.1.1) bytes e)
+    (faulty_down (eqb kind 10) _ _ _ _ e (row_faulty eth_row 4118 eth_lawful eth_judged (λ x. Eth x.0 x.1) bytes e)
     (faulty_down (eqb kind 11) _ _ _ _ e (row_faulty lin_row 4121 lin_lawful lin_judged lin_of bytes e)
     (faulty_down (eqb kind 12) _ _ _ _ e (row_faulty lin_response_row 4121 lin_response_lawful lin_response_judged response_of bytes e)
-    (faulty_down (eqb kind 13) _ _ _ _ e (row_faulty publish_row 4118 publish_lawful publish_judged (λ x. Publish x.0 x.1.0 x.1.1.0 x.1.1.1) bytes e)
-    (faulty_down (eqb kind 14) _ _ _ _ e (row_faulty call_row 4126 call_lawful call_judged (λ x. Call x.0 x.1.0 x.1.1.0 x.1.1.1.0 x.1.1.1.1) bytes e)
-    (faulty_down (eqb kind 15) _ _ _ _ e (row_faulty reply_row 4130 reply_lawful reply_judged (λ x. Reply x.0 x.1.0 x.1.1.0 x.1.1.1.0 x.1.1.1.1.0 x.1.1.1.1.1) bytes e)
+    (faulty_down (eqb kind 13) _ _ _ _ e (row_faulty publish_row 4118 publish_lawful publish_judged (λ x. Publish x.0 x.1) bytes e)
+    (faulty_down (eqb kind 14) _ _ _ _ e (row_faulty call_row 4126 call_lawful call_judged (λ x. Call x.0 x.1.0 x.1.1) bytes e)
+    (faulty_down (eqb kind 15) _ _ _ _ e (row_faulty reply_row 4130 reply_lawful reply_judged (λ x. Reply x.0 x.1.0 x.1.1.0 x.1.1.1) bytes e)
     (faulty_down (eqb kind 16) _ _ _ _ e (row_faulty refuse_row 1 refuse_lawful refuse_judged (λ x. Refuse x) bytes e)
     (λ h. same_err _ e h))))))))))))))))
 

@@ -4,12 +4,12 @@ use Rattle.std.specs.Prelude.{nat_le}
 use Rattle.std.specs.Int.{w8, w16, w32, w64}
 use Rattle.std.proofs.lemmas.Bool.{eqb-true, leb-true, ltb-true, and_parts}
 use Rattle.sk_base.specs.Ranges.{is_time, is_name, is_text, is_payload}
-use Rattle.sk_base.proofs.TextLaws.{is_text-short, is_name-short}
 use Rattle.sk_msg.specs.Rules.{is_step_size, is_u32, is_mark, is_call, is_service_id, is_told, is_required_count, is_new_name, is_can_frame, is_eth_frame, is_lin_id, is_lin_payload, is_received, is_sent}
 use Rattle.sk_msg.specs.Specs.{is_new_key, is_label_count}
 use Rattle.sk_msg.specs.States.{state_number, state_of}
 use Rattle.sk_msg.specs.declared.state.State.{State}
 use Rattle.sk_msg.specs.declared.state.State.TheVariants as states
+use Rattle.sk_msg.specs.declared.head.Head.{Head}
 use Rattle.sk_msg.specs.declared.role.Role.{Role}
 use Rattle.sk_msg.specs.declared.role.Role.TheVariants.{Participant, Tool}
 use Rattle.sk_msg.specs.declared.label.Label.{Label}
@@ -26,16 +26,24 @@ use Rattle.sk_msg.specs.declared.bus.LinMode.TheVariants as modes
 use Rattle.sk_msg.specs.declared.reason.RefuseReason.{RefuseReason}
 use Rattle.sk_msg.specs.declared.reason.RefuseReason.TheVariants as reasons
 use Rattle.sk_wire.specs.Fields.{choice, ◌&◌, such_that}
-use Rattle.sk_wire.specs.Kinds.{name, text, payload, any32, time, step_size, mark, call, role, role_number, role_of, service_id, service_kind, service_kind_number, service_kind_of, label_kind, label_kind_number, label_kind_of, lin_checksum, lin_checksum_number, lin_checksum_of, lin_status, lin_status_number, lin_status_of, lin_mode, lin_mode_number, lin_mode_of, reason, reason_number, reason_of, new_label, labels, state, new_name, required_names, Flags, flags, flags_number, flags_of, can_flags, can_bytes, eth_bytes, lin_id, lin_bytes, hello_row, leave_row, next_step_row, service_add_row, services_end_row, status_row, workflow_row, abort_row, can_row, eth_row, lin_row, lin_response_row, publish_row, call_row, reply_row, refuse_row}
+use Rattle.sk_wire.specs.Kinds.{name, text, payload, any32, time, step_size, mark, head, call, role, role_number, role_of, service_id, service_kind, service_kind_number, service_kind_of, label_kind, label_kind_number, label_kind_of, lin_checksum, lin_checksum_number, lin_checksum_of, lin_status, lin_status_number, lin_status_of, lin_mode, lin_mode_number, lin_mode_of, reason, reason_number, reason_of, new_label, labels, state, new_name, required_names, Flags, flags, flags_number, flags_of, can_flags, can_bytes, eth_bytes, lin_id, lin_bytes, hello_row, leave_row, next_step_row, service_add_row, services_end_row, status_row, workflow_row, abort_row, can_row, eth_row, lin_row, lin_response_row, publish_row, call_row, reply_row, refuse_row}
 use Rattle.sk_wire.proofs.FieldLaws.{Lawful, wide8, wide16, wide32, wide64, number_lawful, counted_lawful, choice_lawful, nothing_lawful, then_lawful, held_lawful, such_that_lawful, list_lawful}
+
+text_short : (bytes : List ℕ) → is_text bytes ≡ true → length bytes ≤ 64
+unfolding is_text
+text_short bytes h = leb-true (length bytes) 64 (and_parts _ _ (and_parts _ _ h).1).0
+
+name_short : (bytes : List ℕ) → is_name bytes ≡ true → length bytes ≤ 64
+unfolding is_name
+name_short bytes h = text_short bytes (and_parts _ _ h).1
 
 pub name_lawful : Lawful (List ℕ) name 65
 unfolding name
-name_lawful = counted_lawful w8 (2 ^ 8) 64 is_name wide8 (λ bytes ok. let l = is_name-short bytes ok in (omega arith, l.1))
+name_lawful = counted_lawful w8 (2 ^ 8) 64 is_name wide8 (λ bytes ok. let l = name_short bytes ok in (omega arith, l))
 
 pub text_lawful : Lawful (List ℕ) text 65
 unfolding text
-text_lawful = counted_lawful w8 (2 ^ 8) 64 is_text wide8 (λ bytes ok. let l = is_text-short bytes ok in (omega arith, l))
+text_lawful = counted_lawful w8 (2 ^ 8) 64 is_text wide8 (λ bytes ok. let l = text_short bytes ok in (omega arith, l))
 
 time_range : (n : ℕ) → is_time n ≡ true → n < 2 ^ 64
 unfolding is_time
@@ -114,6 +122,14 @@ mark_range n ok = let l = leb-true n (2 ^ 63) ok in omega arith
 pub mark_lawful : Lawful ℕ mark 8
 unfolding mark
 mark_lawful = number_lawful w64 (2 ^ 64) is_mark wide64 mark_range
+
+pub head_lawful : Lawful Head head 20
+unfolding head
+head_lawful =
+    held_lawful (λ x. record { service = x.0; stamp = x.1.0; mark = x.1.1 }) (λ h. (h.service, (h.stamp, h.mark))) (any32 & λ service. time & λ stamp. mark) 20 (λ h. refl) (λ x. refl)
+    (then_lawful any32 (λ service. time & λ stamp. mark) 4 16 any32_lawful (λ service.
+    then_lawful time (λ stamp. mark) 8 8 time_lawful (λ stamp.
+    mark_lawful)))
 
 call_range : (n : ℕ) → is_call n ≡ true → n < 2 ^ 64
 unfolding is_call
@@ -433,65 +449,51 @@ pub abort_lawful : Lawful (Unit {0}) abort_row 0
 abort_lawful =
     nothing_lawful
 
-pub can_lawful : Lawful (ℕ × (ℕ × (ℕ × (ℕ × (Flags × List ℕ))))) can_row 4123
+pub can_lawful : Lawful (Head × (ℕ × (Flags × List ℕ))) can_row 4123
 can_lawful =
-    then_lawful any32 (λ service. time & λ stamp. mark & λ mark. any32 & λ id. can_flags & λ f. can_bytes id f) 4 4119 any32_lawful (λ service.
-    then_lawful time (λ stamp. mark & λ mark. any32 & λ id. can_flags & λ f. can_bytes id f) 8 4111 time_lawful (λ stamp.
-    then_lawful mark (λ mark. any32 & λ id. can_flags & λ f. can_bytes id f) 8 4103 mark_lawful (λ mark.
+    then_lawful head (λ head. any32 & λ id. can_flags & λ f. can_bytes id f) 20 4103 head_lawful (λ head.
     then_lawful any32 (λ id. can_flags & λ f. can_bytes id f) 4 4099 any32_lawful (λ id.
     then_lawful can_flags (λ f. can_bytes id f) 1 4098 can_flags_lawful (λ f.
-    can_bytes_lawful id f)))))
+    can_bytes_lawful id f)))
 
-pub eth_lawful : Lawful (ℕ × (ℕ × (ℕ × List ℕ))) eth_row 4118
+pub eth_lawful : Lawful (Head × List ℕ) eth_row 4118
 eth_lawful =
-    then_lawful any32 (λ service. time & λ stamp. mark & λ mark. eth_bytes) 4 4114 any32_lawful (λ service.
-    then_lawful time (λ stamp. mark & λ mark. eth_bytes) 8 4106 time_lawful (λ stamp.
-    then_lawful mark (λ mark. eth_bytes) 8 4098 mark_lawful (λ mark.
-    eth_bytes_lawful)))
+    then_lawful head (λ head. eth_bytes) 20 4098 head_lawful (λ head.
+    eth_bytes_lawful)
 
-pub lin_lawful : Lawful (ℕ × (ℕ × (ℕ × (ℕ × (LinChecksum × (LinStatus × List ℕ)))))) lin_row 4121
+pub lin_lawful : Lawful (Head × (ℕ × (LinChecksum × (LinStatus × List ℕ)))) lin_row 4121
 lin_lawful =
-    then_lawful any32 (λ service. time & λ stamp. mark & λ mark. lin_id & λ id. lin_checksum & λ checksum. lin_status & λ status. lin_bytes (is_received status) checksum) 4 4117 any32_lawful (λ service.
-    then_lawful time (λ stamp. mark & λ mark. lin_id & λ id. lin_checksum & λ checksum. lin_status & λ status. lin_bytes (is_received status) checksum) 8 4109 time_lawful (λ stamp.
-    then_lawful mark (λ mark. lin_id & λ id. lin_checksum & λ checksum. lin_status & λ status. lin_bytes (is_received status) checksum) 8 4101 mark_lawful (λ mark.
+    then_lawful head (λ head. lin_id & λ id. lin_checksum & λ checksum. lin_status & λ status. lin_bytes (is_received status) checksum) 20 4101 head_lawful (λ head.
     then_lawful lin_id (λ id. lin_checksum & λ checksum. lin_status & λ status. lin_bytes (is_received status) checksum) 1 4100 lin_id_lawful (λ id.
     then_lawful lin_checksum (λ checksum. lin_status & λ status. lin_bytes (is_received status) checksum) 1 4099 lin_checksum_lawful (λ checksum.
     then_lawful lin_status (λ status. lin_bytes (is_received status) checksum) 1 4098 lin_status_lawful (λ status.
-    lin_bytes_lawful (is_received status) checksum))))))
+    lin_bytes_lawful (is_received status) checksum))))
 
-pub lin_response_lawful : Lawful (ℕ × (ℕ × (ℕ × (ℕ × (LinMode × (LinChecksum × List ℕ)))))) lin_response_row 4121
+pub lin_response_lawful : Lawful (Head × (ℕ × (LinMode × (LinChecksum × List ℕ)))) lin_response_row 4121
 lin_response_lawful =
-    then_lawful any32 (λ service. time & λ stamp. mark & λ mark. lin_id & λ id. lin_mode & λ mode. lin_checksum & λ checksum. lin_bytes (is_sent mode) checksum) 4 4117 any32_lawful (λ service.
-    then_lawful time (λ stamp. mark & λ mark. lin_id & λ id. lin_mode & λ mode. lin_checksum & λ checksum. lin_bytes (is_sent mode) checksum) 8 4109 time_lawful (λ stamp.
-    then_lawful mark (λ mark. lin_id & λ id. lin_mode & λ mode. lin_checksum & λ checksum. lin_bytes (is_sent mode) checksum) 8 4101 mark_lawful (λ mark.
+    then_lawful head (λ head. lin_id & λ id. lin_mode & λ mode. lin_checksum & λ checksum. lin_bytes (is_sent mode) checksum) 20 4101 head_lawful (λ head.
     then_lawful lin_id (λ id. lin_mode & λ mode. lin_checksum & λ checksum. lin_bytes (is_sent mode) checksum) 1 4100 lin_id_lawful (λ id.
     then_lawful lin_mode (λ mode. lin_checksum & λ checksum. lin_bytes (is_sent mode) checksum) 1 4099 lin_mode_lawful (λ mode.
     then_lawful lin_checksum (λ checksum. lin_bytes (is_sent mode) checksum) 1 4098 lin_checksum_lawful (λ checksum.
-    lin_bytes_lawful (is_sent mode) checksum))))))
+    lin_bytes_lawful (is_sent mode) checksum))))
 
-pub publish_lawful : Lawful (ℕ × (ℕ × (ℕ × List ℕ))) publish_row 4118
+pub publish_lawful : Lawful (Head × List ℕ) publish_row 4118
 publish_lawful =
-    then_lawful any32 (λ service. time & λ stamp. mark & λ mark. payload) 4 4114 any32_lawful (λ service.
-    then_lawful time (λ stamp. mark & λ mark. payload) 8 4106 time_lawful (λ stamp.
-    then_lawful mark (λ mark. payload) 8 4098 mark_lawful (λ mark.
-    payload_lawful)))
+    then_lawful head (λ head. payload) 20 4098 head_lawful (λ head.
+    payload_lawful)
 
-pub call_lawful : Lawful (ℕ × (ℕ × (ℕ × (ℕ × List ℕ)))) call_row 4126
+pub call_lawful : Lawful (Head × (ℕ × List ℕ)) call_row 4126
 call_lawful =
-    then_lawful any32 (λ service. time & λ stamp. mark & λ mark. call & λ call. payload) 4 4122 any32_lawful (λ service.
-    then_lawful time (λ stamp. mark & λ mark. call & λ call. payload) 8 4114 time_lawful (λ stamp.
-    then_lawful mark (λ mark. call & λ call. payload) 8 4106 mark_lawful (λ mark.
+    then_lawful head (λ head. call & λ call. payload) 20 4106 head_lawful (λ head.
     then_lawful call (λ call. payload) 8 4098 call_number_lawful (λ call.
-    payload_lawful))))
+    payload_lawful))
 
-pub reply_lawful : Lawful (ℕ × (ℕ × (ℕ × (ℕ × (ℕ × List ℕ))))) reply_row 4130
+pub reply_lawful : Lawful (Head × (ℕ × (ℕ × List ℕ))) reply_row 4130
 reply_lawful =
-    then_lawful any32 (λ service. time & λ stamp. mark & λ mark. any32 & λ client. call & λ call. payload) 4 4126 any32_lawful (λ service.
-    then_lawful time (λ stamp. mark & λ mark. any32 & λ client. call & λ call. payload) 8 4118 time_lawful (λ stamp.
-    then_lawful mark (λ mark. any32 & λ client. call & λ call. payload) 8 4110 mark_lawful (λ mark.
+    then_lawful head (λ head. any32 & λ client. call & λ call. payload) 20 4110 head_lawful (λ head.
     then_lawful any32 (λ client. call & λ call. payload) 4 4106 any32_lawful (λ client.
     then_lawful call (λ call. payload) 8 4098 call_number_lawful (λ call.
-    payload_lawful)))))
+    payload_lawful)))
 
 pub refuse_lawful : Lawful (RefuseReason) refuse_row 1
 refuse_lawful =

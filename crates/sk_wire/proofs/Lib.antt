@@ -9,3 +9,4 @@ pub mod ReadingLaws
 pub mod DecoderLaws
 pub mod PutLaws
 pub mod ListLoop
+pub mod WholeLaws

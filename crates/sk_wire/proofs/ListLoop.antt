@@ -1,5 +1,7 @@
 -- Reading items one after the other, as a loop does.
-use Rattle.std.proofs.Common.{◌≡◌, ℕ, suc, ◌-◌, ◌+◌, ◌≤◌, ◌<◌, List, [], ◌∷◌, ◌++◌, Ok, Err, refl, sym, ap, ◌∙◌, append_assoc, arith}
+use Rattle.std.proofs.Common.{◌≡◌, ℕ, suc, ◌-◌, ◌+◌, ◌≤◌, ◌<◌, Bool, true, List, [], ◌∷◌, ◌++◌, Ok, Err, refl, sym, ap, ◌∙◌, append_assoc, arith}
+use Rattle.std.proofs.lemmas.Bool.{and_from, and_parts}
+use Rattle.sk_msg.specs.Each.{each_after}
 use Rattle.std.proofs.lemmas.List.{append-nil}
 use Rattle.sk_wire.specs.declared.fault.ReadError.{ReadError}
 use Rattle.sk_wire.specs.declared.fault.ReadError.TheVariants as errors
@@ -40,3 +42,10 @@ module _ {A : Type 0} (item : List A → Field A) where
       let k : count - i ≡ 0 = omega arith in
       let one : with_front front (items_at item (count - i) front bytes) ≡ Ok (front, bytes) = rw k (ap (λ (xs : List A). Ok (xs, bytes)) (append-nil front)) in
       sym so_far ∙ one
+
+-- each item passes a test on those before it; one more that passes
+pub each_after-snoc : {A : Type 0} (test : List A → A → Bool) (before xs : List A) (x : A) → each_after test before xs ≡ true → test (before ++ xs) x ≡ true → each_after test before (xs ++ x ∷ []) ≡ true
+each_after-snoc {A = A} test before [] x h t = and_from _ _ (ap (λ (ys : List A). test ys x) (sym (append-nil before)) ∙ t) refl
+each_after-snoc {A = A} test before (y ∷ ys) x h t =
+    let both = and_parts _ _ h in
+    and_from _ _ both.0 (each_after-snoc test (before ++ y ∷ []) ys x both.1 (ap (λ (zs : List A). test zs x) (append_assoc before (y ∷ []) ys) ∙ t))

@@ -6,7 +6,7 @@ use Rattle.sk_msg.specs.declared.content.Content.{Content}
 use Rattle.sk_msg.specs.Rules.{is_message}
 use Rattle.sk_wire.specs.declared.fault.WireFault.{WireFault}
 use Rattle.sk_wire.specs.Grammar.{spelling, Spells}
-use Rattle.sk_wire.specs.Stream.{AreBytes, Parts, Ends, Reads}
+use Rattle.sk_wire.specs.Stream.{AreBytes, Parts, Ends, HasParts}
 use Rattle.sk_wire.specs.Parts.{Front, Open, Whole, Broken, front, and_before, parts}
 use Rattle.sk_wire.proofs.FieldLaws.{AreBytes-rest}
 use Rattle.sk_wire.proofs.GrammarLaws.{same_spelling}
@@ -42,14 +42,14 @@ read_are (m ∷ ms) from tail rest fault all e =
     ∙ parts-whole from (spelling m ++ behind) m behind (front-spelled m behind all.0)
     ∙ ap (and_before m) (read_are ms (from + (length (spelling m ++ behind) - length behind)) tail rest fault all.1 (subst (λ (n : ℕ). Ends n tail rest fault) (sym place) e))
 
-pub reading_is : (from : ℕ) (bytes : List ℕ) (p : Parts) → Reads from bytes p → p ≡ parts from bytes
+pub reading_is : (from : ℕ) (bytes : List ℕ) (p : Parts) → HasParts from bytes p → p ≡ parts from bytes
 reading_is from bytes p r = sym (ap (parts from) r.whole ∙ read_are p.messages from r.tail p.rest p.fault r.each r.end)
 
 -- ## What the functions answer, the grammar reads
 
 reads_by : (from : ℕ) (bytes : List ℕ) (f : Front) → AreBytes bytes → front bytes ≡ f
-    → ((i : ℕ) (m : Content) (behind : List ℕ) → front bytes ≡ Whole m behind → AreBytes behind → Reads i behind (parts i behind))
-    → Reads from bytes (parts from bytes)
+    → ((i : ℕ) (m : Content) (behind : List ℕ) → front bytes ≡ Whole m behind → AreBytes behind → HasParts i behind (parts i behind))
+    → HasParts from bytes (parts from bytes)
 reads_by from bytes Open fits e again =
     rw (parts-open from bytes e) (record { tail = bytes; whole = refl; each = tt; end = (open_front bytes e, refl) })
 reads_by from bytes (Broken f) fits e again =
@@ -69,12 +69,9 @@ reads_by from bytes (Whole m behind) fits e again =
       end = subst (λ (n : ℕ). Ends n r.tail p.rest p.fault) place r.end;
     })
 
-reads_up_to : (n from : ℕ) (bytes : List ℕ) → length bytes ≤ n → AreBytes bytes → Reads from bytes (parts from bytes)
+reads_up_to : (n from : ℕ) (bytes : List ℕ) → length bytes ≤ n → AreBytes bytes → HasParts from bytes (parts from bytes)
 reads_up_to zero from bytes le fits = reads_by from bytes (front bytes) fits refl (λ i m behind e ok. let lt = whole_shorter bytes m behind e in absurd (omega arith))
 reads_up_to (suc n) from bytes le fits = reads_by from bytes (front bytes) fits refl (λ i m behind e ok. let lt = whole_shorter bytes m behind e in reads_up_to n i behind (omega arith) ok)
 
-pub parts_read : (from : ℕ) (bytes : List ℕ) → AreBytes bytes → Reads from bytes (parts from bytes)
+pub parts_read : (from : ℕ) (bytes : List ℕ) → AreBytes bytes → HasParts from bytes (parts from bytes)
 parts_read from bytes fits = reads_up_to (length bytes) from bytes (omega arith) fits
-
-pub one_reading : (from : ℕ) (bytes : List ℕ) (p : Parts) → AreBytes bytes → Reads from bytes p ↔ (p ≡ parts from bytes)
-one_reading from bytes p fits = (reading_is from bytes p, λ e. subst (λ (q : Parts). Reads from bytes q) (sym e) (parts_read from bytes fits))

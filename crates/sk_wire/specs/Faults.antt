@@ -5,14 +5,14 @@ use Rattle.sk_wire.specs.declared.fault.What.TheVariants.{Short, TooLong, BadVer
 use Rattle.sk_wire.specs.declared.fault.WireFault.{WireFault}
 use Rattle.sk_wire.specs.declared.fault.BodyFault.{BodyFault}
 use Rattle.sk_wire.specs.Reading.{cut}
-use Rattle.sk_wire.specs.Fields.{Field, Stands, IsBad}
+use Rattle.sk_wire.specs.Fields.{Field, IsFieldAt, IsBad}
 use Rattle.sk_wire.specs.Kinds.{hello_row, leave_row, next_step_row, service_add_row, services_end_row, status_row, workflow_row, abort_row, can_row, eth_row, lin_row, lin_response_row, publish_row, call_row, reply_row, refuse_row}
 
 -- the first fault in the fields, or the first byte that is left behind the last of them
 abbrev pub RowFaults : {A : Type 0} → Field A → List ℕ → BodyFault → Type 0
 RowFaults {A = A} row bytes fault =
     row.faults bytes fault
-    ⊎ ((x : A) × (behind : List ℕ) × Stands row bytes x behind × (0 < length behind) × IsBad behind fault)
+    ⊎ ((x : A) × (behind : List ℕ) × IsFieldAt row bytes x behind × (0 < length behind) × IsBad behind fault)
 
 unfoldable pub KindFaults : ℕ → List ℕ → BodyFault → Type 0
 KindFaults kind bytes fault =

@@ -3,7 +3,7 @@ use Rattle.std.specs.Prelude.{◌≡◌, ℕ, ◌+◌, ◌-◌, ◌≤◌, IsTru
 use Rattle.sk_msg.specs.declared.content.Content.{Content}
 use Rattle.sk_wire.specs.declared.fault.WireFault.{WireFault}
 use Rattle.sk_wire.specs.Stream.{is_open}
-use Rattle.sk_wire.specs.Parts.{parts}
+use Rattle.sk_wire.specs.Parts.{parts, messages, rest, fault}
 
 -- the open rest, the number of bytes fed so far, and the fault
 pub record Waiting : Type 0 where
@@ -30,3 +30,17 @@ RestsAt None rest = IsTrue (is_open rest)
 pub record IsWaiting (w : Waiting) : Type 0 where
   pub within : length w.rest ≤ w.fed
   pub rests : RestsAt w.fault w.rest
+
+-- a decoder that was fed these bytes
+abbrev pub fed_with : List ℕ → Waiting
+fed_with b = record { rest = rest b; fed = length b; fault = fault b }
+
+-- behind the bytes b, a piece gave these messages and this fault: they are those of the whole stream
+pub record Continues (b piece : List ℕ) (given : List Content) (found : Option WireFault) (new : Waiting) : Type 0 where
+  pub stands : new ≡ fed_with (b ++ piece)
+  pub all : messages (b ++ piece) ≡ messages b ++ given
+  pub first : found ≡ fault (b ++ piece)
+
+-- whatever bytes were fed before
+abbrev pub GoesOn : Waiting → List ℕ → List Content → Option WireFault → Waiting → Type 0
+GoesOn old piece given found new = (b : List ℕ) → old ≡ fed_with b → Continues b piece given found new

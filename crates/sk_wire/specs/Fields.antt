@@ -16,8 +16,8 @@ pub record Field (A : Type 0) : Type 1 where
   pub at : List ℕ → Reading A
 
 -- the field stands at the front of the bytes, with this value and these bytes behind it
-abbrev pub Stands : {A : Type 0} → Field A → List ℕ → A → List ℕ → Type 0
-Stands field bytes x behind = (field.fits x ≡ true) × (bytes ≡ field.spelling x ++ behind)
+abbrev pub IsFieldAt : {A : Type 0} → Field A → List ℕ → A → List ℕ → Type 0
+IsFieldAt field bytes x behind = (field.fits x ≡ true) × (bytes ≡ field.spelling x ++ behind)
 
 -- the field needs more bytes than the body has left
 abbrev pub IsCut : List ℕ → BodyFault → Type 0
@@ -104,7 +104,7 @@ abbrev pub ◌&◌ : {A B : Type 0} → Field A → (A → Field B) → Field (A
   fits = λ x. first.fits x.0 && (second x.0).fits x.1;
   faults = λ bytes fault.
       first.faults bytes fault
-      ⊎ ((x : A) × (behind : List ℕ) × Stands first bytes x behind × (second x).faults behind fault);
+      ⊎ ((x : A) × (behind : List ℕ) × IsFieldAt first bytes x behind × (second x).faults behind fault);
   at = λ bytes. first.at bytes >>= λ x. (second x.0).at x.1 >>= λ y. Ok ((x.0, y.0), y.1);
 }
 
@@ -125,7 +125,7 @@ such_that {A = A} rule field = record {
   fits = λ x. field.fits x && rule x;
   faults = λ bytes fault.
       field.faults bytes fault
-      ⊎ (IsBad bytes fault × ((x : A) × (behind : List ℕ) × Stands field bytes x behind × (rule x ≡ false)));
+      ⊎ (IsBad bytes fault × ((x : A) × (behind : List ℕ) × IsFieldAt field bytes x behind × (rule x ≡ false)));
   at = λ bytes. field.at bytes >>= λ x. if rule x.0 then Ok x else Err (bad bytes);
 }
 
@@ -142,7 +142,7 @@ abbrev pub items_faults : {A : Type 0} → (List A → Field A) → ℕ → List
 items_faults item zero before bytes fault = ⊥
 items_faults {A = A} item (suc n) before bytes fault =
     (item before).faults bytes fault
-    ⊎ ((x : A) × (behind : List ℕ) × Stands (item before) bytes x behind × items_faults item n (before ++ x ∷ []) behind fault)
+    ⊎ ((x : A) × (behind : List ℕ) × IsFieldAt (item before) bytes x behind × items_faults item n (before ++ x ∷ []) behind fault)
 
 abbrev pub list : {A : Type 0} → (ℕ → Bool) → (List A → Field A) → Field (List A)
 list many item = record {

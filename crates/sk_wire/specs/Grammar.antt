@@ -22,13 +22,13 @@ kind_of ServicesEnd = 5
 kind_of (Status state until) = 6
 kind_of (Workflow required) = 7
 kind_of Abort = 8
-kind_of (Can service stamp mark f) = 9
-kind_of (Eth service stamp mark bytes) = 10
-kind_of (Lin service stamp mark f) = 11
-kind_of (LinResponse service stamp mark r) = 12
-kind_of (Publish service stamp mark bytes) = 13
-kind_of (Call service stamp mark call bytes) = 14
-kind_of (Reply service stamp mark client call bytes) = 15
+kind_of (Can head f) = 9
+kind_of (Eth head bytes) = 10
+kind_of (Lin head f) = 11
+kind_of (LinResponse head r) = 12
+kind_of (Publish head bytes) = 13
+kind_of (Call head call bytes) = 14
+kind_of (Reply head client call bytes) = 15
 kind_of (Refuse reason) = 16
 
 unfoldable pub fields : Content → List ℕ
@@ -40,13 +40,13 @@ fields ServicesEnd = services_end_row.spelling tt
 fields (Status state until) = status_row.spelling (state, until)
 fields (Workflow required) = workflow_row.spelling required
 fields Abort = abort_row.spelling tt
-fields (Can service stamp mark f) = can_row.spelling (can_parts service stamp mark f)
-fields (Eth service stamp mark bytes) = eth_row.spelling (service, (stamp, (mark, bytes)))
-fields (Lin service stamp mark f) = lin_row.spelling (lin_parts service stamp mark f)
-fields (LinResponse service stamp mark r) = lin_response_row.spelling (response_parts service stamp mark r)
-fields (Publish service stamp mark bytes) = publish_row.spelling (service, (stamp, (mark, bytes)))
-fields (Call service stamp mark call bytes) = call_row.spelling (service, (stamp, (mark, (call, bytes))))
-fields (Reply service stamp mark client call bytes) = reply_row.spelling (service, (stamp, (mark, (client, (call, bytes)))))
+fields (Can head f) = can_row.spelling (can_parts head f)
+fields (Eth head bytes) = eth_row.spelling (head, bytes)
+fields (Lin head f) = lin_row.spelling (lin_parts head f)
+fields (LinResponse head r) = lin_response_row.spelling (response_parts head r)
+fields (Publish head bytes) = publish_row.spelling (head, bytes)
+fields (Call head call bytes) = call_row.spelling (head, (call, bytes))
+fields (Reply head client call bytes) = reply_row.spelling (head, (client, (call, bytes)))
 fields (Refuse reason) = refuse_row.spelling reason
 
 -- version 1, the kind, the fields
@@ -95,7 +95,7 @@ unfoldable pub can_at : List ℕ → Result Content BodyFault
 can_at = whole can_row can_of
 
 unfoldable pub eth_at : List ℕ → Result Content BodyFault
-eth_at = whole eth_row (λ x. Eth x.0 x.1.0 x.1.1.0 x.1.1.1)
+eth_at = whole eth_row (λ x. Eth x.0 x.1)
 
 unfoldable pub lin_at : List ℕ → Result Content BodyFault
 lin_at = whole lin_row lin_of
@@ -104,13 +104,13 @@ unfoldable pub lin_response_at : List ℕ → Result Content BodyFault
 lin_response_at = whole lin_response_row response_of
 
 unfoldable pub publish_at : List ℕ → Result Content BodyFault
-publish_at = whole publish_row (λ x. Publish x.0 x.1.0 x.1.1.0 x.1.1.1)
+publish_at = whole publish_row (λ x. Publish x.0 x.1)
 
 unfoldable pub call_at : List ℕ → Result Content BodyFault
-call_at = whole call_row (λ x. Call x.0 x.1.0 x.1.1.0 x.1.1.1.0 x.1.1.1.1)
+call_at = whole call_row (λ x. Call x.0 x.1.0 x.1.1)
 
 unfoldable pub reply_at : List ℕ → Result Content BodyFault
-reply_at = whole reply_row (λ x. Reply x.0 x.1.0 x.1.1.0 x.1.1.1.0 x.1.1.1.1.0 x.1.1.1.1.1)
+reply_at = whole reply_row (λ x. Reply x.0 x.1.0 x.1.1.0 x.1.1.1)
 
 unfoldable pub refuse_at : List ℕ → Result Content BodyFault
 refuse_at = whole refuse_row (λ x. Refuse x)

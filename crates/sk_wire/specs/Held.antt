@@ -2,6 +2,7 @@
 use Rattle.std.specs.Prelude.{ℕ, false, List}
 use Rattle.sk_msg.specs.declared.content.Content.{Content}
 use Rattle.sk_msg.specs.declared.content.Content.TheVariants.{ServiceAdd, Can, Lin, LinResponse}
+use Rattle.sk_msg.specs.declared.head.Head.{Head}
 use Rattle.sk_msg.specs.declared.label.Label.{Label}
 use Rattle.sk_msg.specs.declared.service.Service.{Service}
 use Rattle.sk_msg.specs.declared.service.ServiceKind.{ServiceKind}
@@ -30,43 +31,28 @@ service_of x = ServiceAdd (record {
 })
 
 abbrev pub CanParts : Type 0
-CanParts = ℕ × (ℕ × (ℕ × (ℕ × (Flags × List ℕ))))
+CanParts = Head × (ℕ × (Flags × List ℕ))
 
-abbrev pub can_parts : ℕ → ℕ → ℕ → CanFrame → CanParts
-can_parts service stamp mark f = (service, (stamp, (mark, (f.id, (flags f.extended f.fd, f.payload)))))
+abbrev pub can_parts : Head → CanFrame → CanParts
+can_parts head f = (head, (f.id, (flags f.extended f.fd, f.payload)))
 
 abbrev pub can_of : CanParts → Content
-can_of x = Can x.0 x.1.0 x.1.1.0 (record {
-  id = x.1.1.1.0;
-  extended = x.1.1.1.1.0.0;
-  fd = x.1.1.1.1.0.1;
-  payload = x.1.1.1.1.1;
-})
+can_of x = Can x.0 (record { id = x.1.0; extended = x.1.1.0.0; fd = x.1.1.0.1; payload = x.1.1.1 })
 
 abbrev pub LinParts : Type 0
-LinParts = ℕ × (ℕ × (ℕ × (ℕ × (LinChecksum × (LinStatus × List ℕ)))))
+LinParts = Head × (ℕ × (LinChecksum × (LinStatus × List ℕ)))
 
-abbrev pub lin_parts : ℕ → ℕ → ℕ → LinFrame → LinParts
-lin_parts service stamp mark f = (service, (stamp, (mark, (f.id, (f.checksum, (f.status, f.payload))))))
+abbrev pub lin_parts : Head → LinFrame → LinParts
+lin_parts head f = (head, (f.id, (f.checksum, (f.status, f.payload))))
 
 abbrev pub lin_of : LinParts → Content
-lin_of x = Lin x.0 x.1.0 x.1.1.0 (record {
-  id = x.1.1.1.0;
-  checksum = x.1.1.1.1.0;
-  status = x.1.1.1.1.1.0;
-  payload = x.1.1.1.1.1.1;
-})
+lin_of x = Lin x.0 (record { id = x.1.0; checksum = x.1.1.0; status = x.1.1.1.0; payload = x.1.1.1.1 })
 
 abbrev pub ResponseParts : Type 0
-ResponseParts = ℕ × (ℕ × (ℕ × (ℕ × (LinMode × (LinChecksum × List ℕ)))))
+ResponseParts = Head × (ℕ × (LinMode × (LinChecksum × List ℕ)))
 
-abbrev pub response_parts : ℕ → ℕ → ℕ → responses.LinResponse → ResponseParts
-response_parts service stamp mark r = (service, (stamp, (mark, (r.id, (r.mode, (r.checksum, r.payload))))))
+abbrev pub response_parts : Head → responses.LinResponse → ResponseParts
+response_parts head r = (head, (r.id, (r.mode, (r.checksum, r.payload))))
 
 abbrev pub response_of : ResponseParts → Content
-response_of x = LinResponse x.0 x.1.0 x.1.1.0 (record {
-  id = x.1.1.1.0;
-  mode = x.1.1.1.1.0;
-  checksum = x.1.1.1.1.1.0;
-  payload = x.1.1.1.1.1.1;
-})
+response_of x = LinResponse x.0 (record { id = x.1.0; mode = x.1.1.0; checksum = x.1.1.1.0; payload = x.1.1.1.1 })

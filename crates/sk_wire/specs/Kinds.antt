@@ -5,6 +5,7 @@ use Rattle.sk_base.specs.Ranges.{is_name, is_text, is_time, is_payload}
 use Rattle.sk_msg.specs.Rules.{is_step_size, is_u32, is_mark, is_call, is_service_id, is_told, is_required_count, is_new_name, is_can_frame, is_eth_frame, is_lin_id, is_lin_payload, is_received, is_sent}
 use Rattle.sk_msg.specs.Specs.{is_new_key, is_label_count}
 use Rattle.sk_msg.specs.States.{state_number, state_of}
+use Rattle.sk_msg.specs.declared.head.Head.{Head}
 use Rattle.sk_msg.specs.declared.state.State.{State}
 use Rattle.sk_msg.specs.declared.role.Role.{Role}
 use Rattle.sk_msg.specs.declared.role.Role.TheVariants.{Participant, Tool}
@@ -52,6 +53,12 @@ step_size = number w64 is_step_size
 -- eight bytes, at most 2^63
 unfoldable pub mark : Field ℕ
 mark = number w64 is_mark
+
+-- what stands in front of all that goes from service to service: service, stamp, mark
+unfoldable pub head : Field Head
+head =
+    held (λ x. record { service = x.0; stamp = x.1.0; mark = x.1.1 }) (λ h. (h.service, (h.stamp, h.mark)))
+    (any32 & λ service. time & λ stamp. mark)
 
 -- eight bytes, 1 to 2^63
 unfoldable pub call : Field ℕ
@@ -262,33 +269,33 @@ workflow_row = required_names
 abbrev pub abort_row : Field (Unit {0})
 abort_row = nothing
 
--- 9: service, stamp, mark, id, flags, bytes
-abbrev pub can_row : Field (ℕ × (ℕ × (ℕ × (ℕ × (Flags × List ℕ)))))
-can_row = any32 & λ service. time & λ stamp. mark & λ mark. any32 & λ id. can_flags & λ f. can_bytes id f
+-- 9: head, id, flags, bytes
+abbrev pub can_row : Field (Head × (ℕ × (Flags × List ℕ)))
+can_row = head & λ head. any32 & λ id. can_flags & λ f. can_bytes id f
 
--- 10: service, stamp, mark, bytes
-abbrev pub eth_row : Field (ℕ × (ℕ × (ℕ × List ℕ)))
-eth_row = any32 & λ service. time & λ stamp. mark & λ mark. eth_bytes
+-- 10: head, bytes
+abbrev pub eth_row : Field (Head × List ℕ)
+eth_row = head & λ head. eth_bytes
 
--- 11: service, stamp, mark, id, checksum, status, bytes
-abbrev pub lin_row : Field (ℕ × (ℕ × (ℕ × (ℕ × (LinChecksum × (LinStatus × List ℕ))))))
-lin_row = any32 & λ service. time & λ stamp. mark & λ mark. lin_id & λ id. lin_checksum & λ checksum. lin_status & λ status. lin_bytes (is_received status) checksum
+-- 11: head, id, checksum, status, bytes
+abbrev pub lin_row : Field (Head × (ℕ × (LinChecksum × (LinStatus × List ℕ))))
+lin_row = head & λ head. lin_id & λ id. lin_checksum & λ checksum. lin_status & λ status. lin_bytes (is_received status) checksum
 
--- 12: service, stamp, mark, id, mode, checksum, bytes
-abbrev pub lin_response_row : Field (ℕ × (ℕ × (ℕ × (ℕ × (LinMode × (LinChecksum × List ℕ))))))
-lin_response_row = any32 & λ service. time & λ stamp. mark & λ mark. lin_id & λ id. lin_mode & λ mode. lin_checksum & λ checksum. lin_bytes (is_sent mode) checksum
+-- 12: head, id, mode, checksum, bytes
+abbrev pub lin_response_row : Field (Head × (ℕ × (LinMode × (LinChecksum × List ℕ))))
+lin_response_row = head & λ head. lin_id & λ id. lin_mode & λ mode. lin_checksum & λ checksum. lin_bytes (is_sent mode) checksum
 
--- 13: service, stamp, mark, bytes
-abbrev pub publish_row : Field (ℕ × (ℕ × (ℕ × List ℕ)))
-publish_row = any32 & λ service. time & λ stamp. mark & λ mark. payload
+-- 13: head, bytes
+abbrev pub publish_row : Field (Head × List ℕ)
+publish_row = head & λ head. payload
 
--- 14: service, stamp, mark, call, bytes
-abbrev pub call_row : Field (ℕ × (ℕ × (ℕ × (ℕ × List ℕ))))
-call_row = any32 & λ service. time & λ stamp. mark & λ mark. call & λ call. payload
+-- 14: head, call, bytes
+abbrev pub call_row : Field (Head × (ℕ × List ℕ))
+call_row = head & λ head. call & λ call. payload
 
--- 15: service, stamp, mark, client, call, bytes
-abbrev pub reply_row : Field (ℕ × (ℕ × (ℕ × (ℕ × (ℕ × List ℕ)))))
-reply_row = any32 & λ service. time & λ stamp. mark & λ mark. any32 & λ client. call & λ call. payload
+-- 15: head, client, call, bytes
+abbrev pub reply_row : Field (Head × (ℕ × (ℕ × List ℕ)))
+reply_row = head & λ head. any32 & λ client. call & λ call. payload
 
 -- 16: reason
 abbrev pub refuse_row : Field (RefuseReason)

@@ -36,7 +36,7 @@ Ends offset tail rest (Some fault) =
     (rest ≡ []) × ((here : WireFault) × FrameFaults tail here × (fault ≡ record { at = offset + here.at; what = here.what }))
 
 -- the bytes, the first of which has this offset in the stream, have these parts
-pub record Reads (from : ℕ) (bytes : List ℕ) (parts : Parts) : Type 0 where
+pub record HasParts (from : ℕ) (bytes : List ℕ) (parts : Parts) : Type 0 where
   pub tail : List ℕ
   pub whole : bytes ≡ flat_map spelling parts.messages ++ tail
   pub each : AllByRecursion (λ m. IsTrue (is_message m)) parts.messages

@@ -1,18 +1,18 @@
 //! A decoder of a stream that comes in pieces.
 
-ghost use Rattle.std.specs.Prelude.{◌≡◌, ◌⊎◌, ◌+◌, ◌-◌, ◌^◌, ◌<◌, ◌≤◌, ◌++◌, [], length, take, None, IfOk, OnOk, OnErr, IsTrue};
+ghost use Rattle.std.specs.Prelude.{◌≡◌, ◌⊎◌, ℕ, List, ◌+◌, ◌-◌, ◌^◌, ◌<◌, ◌≤◌, ◌++◌, [], length, take, None, IfOk, OnOk, OnErr, IsTrue};
 ghost use Rattle.sk_wire.specs.Stream.{Announces, is_open};
 ghost use Rattle.sk_wire.specs.Faults.{announced};
-ghost use Rattle.sk_wire.specs.Parts.{parts};
+ghost use mathlib.Core.List.{IsPrefix};
+ghost use Rattle.sk_wire.specs.Parts.{parts, messages};
 ghost use Rattle.sk_wire.specs.Seen.{following};
 ghost use Rattle.sk_wire.specs.Fed.{fed_parts};
-ghost use Rattle.sk_wire.specs.Feeding.{Feeds};
+ghost use Rattle.sk_wire.specs.Feeding.{Feeds, GoesOn, fed_with};
 
 use crate::fault::WireFault;
-use crate::frames::{
-    Front, LENGTH_BYTES, LONGEST_BODY, SHORTEST_BODY, announced_in, frames_of, front_of,
-};
+use crate::frames::{Front, LENGTH_BYTES, announced_in, frames_of, front_of};
 use sk_base::WantOfMemory;
+use sk_base::limits::{LONGEST_BODY, SHORTEST_BODY};
 use sk_msg::Message;
 use std::alloc::{AllocError, Global};
 use std::marker::Model;
@@ -51,8 +51,10 @@ impl Model for Decoder {
 
 impl Decoder {
     /// A decoder before the first byte.
+    #[tactic(auto, unfolding(crate::specs::Parts::parts))]
     pub fn new(alloc: Global) -> Decoder
-        ensures { result ≡ record { rest = []; fed = 0; fault = None } }
+        ensures value { result ≡ record { rest = []; fed = 0; fault = None } }
+        ensures stream { result ≡ fed_with [] }
     {
         Decoder {
             alloc,
@@ -69,12 +71,29 @@ impl Decoder {
         self.buffer.len()
     }
 
+    /// How many bytes were fed in all.
+    pub fn fed(&self) -> u64
+        ensures { result ≡ self.now.fed }
+    {
+        self.fed
+    }
+
+    /// The fault of the stream so far.
+    pub fn fault(&self) -> Option<WireFault>
+        ensures { result ≡ self.now.fault }
+    {
+        self.fault
+    }
+
     /// Takes the next piece of the stream, where fewer than 2^63 bytes are then fed in all. It
     /// answers the messages that the piece makes whole, and the fault behind them, if any; behind a
     /// fault nothing is read. After want of memory nothing has changed.
+    #[tactic(auto, using(crate::proofs::WholeLaws::goes_on, crate::proofs::WholeLaws::messages_grow))]
     pub fn feed(&mut self, piece: &[u8]) -> Result<Fed, WantOfMemory>
         requires { self.old.fed + length piece.now < 2 ^ 63 }
         ensures read { IfOk result (λ fed. Feeds self.old piece.now fed.messages.items fed.fault self.new) }
+        ensures stream { IfOk result (λ fed. GoesOn self.old piece.now fed.messages.items fed.fault self.new) }
+        ensures grows { (b : List ℕ) → IsPrefix (messages b) (messages (b ++ piece.now)) }
         ensures fed { OnOk result (self.new.fed ≡ self.old.fed + length piece.now) }
         ensures same { OnErr result (self.new ≡ self.old) }
     {
@@ -190,12 +209,12 @@ fn fill(buffer: &mut Vec<u8>, piece: &[u8]) -> Result<usize, AllocError>
     if buffer.len() < LENGTH_BYTES {
         return Ok(head);
     }
-    let announced = announced_in(buffer);
+    let announced = announced_in(buffer) as usize;
     if announced < SHORTEST_BODY || announced > LONGEST_BODY {
         return Ok(head);
     }
     let (_, behind) = piece.split_at(head);
-    let more = fill_to(buffer, LENGTH_BYTES + announced as usize, behind)?;
+    let more = fill_to(buffer, LENGTH_BYTES + announced, behind)?;
     Ok(head + more)
 }
 

@@ -10,6 +10,7 @@ use crate::numbers::{
     Cursor, bad_field, put_long_bytes, put_short_bytes, put_u8, put_u32, put_u64,
 };
 use sk_base::{Bytes, BytesFault, Name, SimTime, Text, WantOfMemory};
+use sk_msg::Head;
 use sk_msg::rules::{is_call, is_lin_id, is_mark, is_service_id, is_step_size};
 use std::alloc::Global;
 
@@ -149,6 +150,33 @@ pub fn put_mark(to: &mut Vec<u8>, mark: u64) -> Result<(), WantOfMemory>
     ensures { Puts result to.old.items to.new.items (kinds.mark.spelling mark) }
 {
     put_u64(to, mark)
+}
+
+impl<'a> Cursor<'a> {
+    /// What stands in front of all that goes from service to service.
+    #[tactic(auto, unfolding(crate::specs::Kinds::head))]
+    pub fn head(&mut self) -> Result<Head, ReadError>
+        ensures { Gives (λ head. (head, self.new)) result (kinds.head.at self.old) }
+    {
+        let service = self.any32()?;
+        let stamp = self.time()?;
+        let mark = self.mark()?;
+        Ok(Head {
+            service,
+            stamp,
+            mark,
+        })
+    }
+}
+
+/// Appends what stands in front of all that goes from service to service.
+#[tactic(auto, using(crate::proofs::PutLaws::puts), unfolding(crate::specs::Kinds::head))]
+pub fn put_head(to: &mut Vec<u8>, head: Head) -> Result<(), WantOfMemory>
+    ensures { Puts result to.old.items to.new.items (kinds.head.spelling head) }
+{
+    put_any32(to, head.service)?;
+    put_time(to, head.stamp)?;
+    put_mark(to, head.mark)
 }
 
 impl<'a> Cursor<'a> {

@@ -13,17 +13,12 @@ use crate::fault::{ReadError, What, WireFault};
 use crate::kinds::{put_body, read_body};
 use crate::numbers::put_u32;
 use sk_base::WantOfMemory;
+use sk_base::limits::{LONGEST_BODY, SHORTEST_BODY};
 use sk_msg::{Content, Message};
 use std::alloc::Global;
 
 /// How many bytes a length takes.
 pub const LENGTH_BYTES: usize = 4;
-
-/// The shortest body, in bytes: a version and a kind.
-pub const SHORTEST_BODY: u32 = 2;
-
-/// The longest body, in bytes.
-pub const LONGEST_BODY: u32 = 8192;
 
 /// What stands at the front of a stream.
 #[derive(Drop)]
@@ -72,7 +67,8 @@ fn put_frame(to: &mut Vec<u8>, content: &Content) -> Result<(), WantOfMemory>
 /// Appends the one spelling of the message, 6 to 8,196 bytes. After want of memory nothing has
 /// changed.
 pub fn encode(message: &Message, to: &mut Vec<u8>) -> Result<(), WantOfMemory>
-    ensures ok { OnOk result ((bytes : List ℕ) × grammar.Spells message.now bytes × (to.new.items ≡ to.old.items ++ bytes)) }
+    ensures ok { OnOk result (to.new.items ≡ to.old.items ++ grammar.spelling message.now) }
+    ensures spells { grammar.Spells message.now (grammar.spelling message.now) }
     ensures size { OnOk result ((length to.old.items + 6 ≤ length to.new.items) × (length to.new.items ≤ length to.old.items + 8196)) }
     ensures same { OnErr result (to.new.items ≡ to.old.items) }
 {
@@ -102,7 +98,7 @@ pub fn front_of<'a>(alloc: Global, bytes: &'a [u8]) -> Result<Front<'a>, WantOfM
     if bytes.len() < LENGTH_BYTES {
         return Ok(Front::Open);
     }
-    let announced = announced_in(bytes);
+    let announced = announced_in(bytes) as usize;
     if announced < SHORTEST_BODY {
         return Ok(Front::Broken(WireFault {
             at: 0,
@@ -115,18 +111,17 @@ pub fn front_of<'a>(alloc: Global, bytes: &'a [u8]) -> Result<Front<'a>, WantOfM
             what: What::TooLong,
         }));
     }
-    let len = announced as usize;
     let (_, behind) = bytes.split_at(LENGTH_BYTES);
-    if behind.len() < len {
+    if behind.len() < announced {
         return Ok(Front::Open);
     }
-    let (body, rest) = behind.split_at(len);
+    let (body, rest) = behind.split_at(announced);
     match read_body(alloc, body) {
         Ok(content) => Ok(Front::Whole(Message::new(content), rest)),
         Err(error) => match error {
             ReadError::WantOfMemory => Err(WantOfMemory),
             ReadError::Fault(fault) => Ok(Front::Broken(WireFault {
-                at: (LENGTH_BYTES + len).saturating_sub(fault.left) as u64,
+                at: (LENGTH_BYTES + announced).saturating_sub(fault.left) as u64,
                 what: fault.what,
             })),
         },

@@ -15,7 +15,7 @@ use crate::choices::{
 };
 use crate::fault::{BodyFault, ReadError, What};
 use crate::fields::{
-    put_any32, put_call, put_lin_id, put_mark, put_name, put_payload, put_service_id,
+    put_any32, put_call, put_head, put_lin_id, put_name, put_payload, put_service_id,
     put_step_size, put_text, put_time,
 };
 use crate::lists::{put_labels, put_required_names};
@@ -23,7 +23,8 @@ use crate::numbers::{Cursor, bad_field, put_u8};
 use sk_base::{Bytes, Name, SimTime, Text, WantOfMemory};
 use sk_msg::rules::{is_can_frame, is_eth_frame, is_lin_payload, is_received, is_sent};
 use sk_msg::{
-    Announced, CanFrame, Content, LinChecksum, LinFrame, LinResponse, Role, Service, Spec, State,
+    Announced, CanFrame, Content, Head, LinChecksum, LinFrame, LinResponse, Role, Service, Spec,
+    State,
 };
 use std::alloc::Global;
 
@@ -196,9 +197,7 @@ impl<'a> Cursor<'a> {
     fn can(&mut self, alloc: Global) -> Result<Content, ReadError>
         ensures { Gives (λ content. content) result (grammar.can_at self.old) }
     {
-        let service = self.any32()?;
-        let stamp = self.time()?;
-        let mark = self.mark()?;
+        let head = self.head()?;
         let id = self.any32()?;
         let (extended, fd) = self.can_flags()?;
         let payload = self.can_bytes(alloc, id, extended, fd)?;
@@ -208,28 +207,15 @@ impl<'a> Cursor<'a> {
             fd,
             payload,
         };
-        self.end(Content::Can {
-            service,
-            stamp,
-            mark,
-            frame,
-        })
+        self.end(Content::Can { head, frame })
     }
 }
 
 #[tactic(auto, using(crate::proofs::PutLaws::puts))]
-fn put_can(
-    to: &mut Vec<u8>,
-    service: u32,
-    stamp: SimTime,
-    mark: u64,
-    frame: &CanFrame,
-) -> Result<(), WantOfMemory>
-    ensures { Puts result to.old.items to.new.items (rows.can_row.spelling (held.can_parts service stamp mark frame.now)) }
+fn put_can(to: &mut Vec<u8>, head: Head, frame: &CanFrame) -> Result<(), WantOfMemory>
+    ensures { Puts result to.old.items to.new.items (rows.can_row.spelling (held.can_parts head frame.now)) }
 {
-    put_any32(to, service)?;
-    put_time(to, stamp)?;
-    put_mark(to, mark)?;
+    put_head(to, head)?;
     put_any32(to, frame.id)?;
     put_can_flags(to, frame.extended, frame.fd)?;
     put_payload(to, &frame.payload)
@@ -254,32 +240,17 @@ impl<'a> Cursor<'a> {
     fn eth(&mut self, alloc: Global) -> Result<Content, ReadError>
         ensures { Gives (λ content. content) result (grammar.eth_at self.old) }
     {
-        let service = self.any32()?;
-        let stamp = self.time()?;
-        let mark = self.mark()?;
+        let head = self.head()?;
         let payload = self.eth_bytes(alloc)?;
-        self.end(Content::Eth {
-            service,
-            stamp,
-            mark,
-            payload,
-        })
+        self.end(Content::Eth { head, payload })
     }
 }
 
 #[tactic(auto, using(crate::proofs::PutLaws::puts), unfolding(crate::specs::Kinds::eth_bytes))]
-fn put_eth(
-    to: &mut Vec<u8>,
-    service: u32,
-    stamp: SimTime,
-    mark: u64,
-    payload: &Bytes,
-) -> Result<(), WantOfMemory>
-    ensures { Puts result to.old.items to.new.items (rows.eth_row.spelling (service, (stamp, (mark, payload.now)))) }
+fn put_eth(to: &mut Vec<u8>, head: Head, payload: &Bytes) -> Result<(), WantOfMemory>
+    ensures { Puts result to.old.items to.new.items (rows.eth_row.spelling (head, payload.now)) }
 {
-    put_any32(to, service)?;
-    put_time(to, stamp)?;
-    put_mark(to, mark)?;
+    put_head(to, head)?;
     put_payload(to, payload)
 }
 
@@ -306,9 +277,7 @@ impl<'a> Cursor<'a> {
     fn lin(&mut self, alloc: Global) -> Result<Content, ReadError>
         ensures { Gives (λ content. content) result (grammar.lin_at self.old) }
     {
-        let service = self.any32()?;
-        let stamp = self.time()?;
-        let mark = self.mark()?;
+        let head = self.head()?;
         let id = self.lin_id()?;
         let checksum = self.lin_checksum()?;
         let status = self.lin_status()?;
@@ -319,28 +288,15 @@ impl<'a> Cursor<'a> {
             status,
             payload,
         };
-        self.end(Content::Lin {
-            service,
-            stamp,
-            mark,
-            frame,
-        })
+        self.end(Content::Lin { head, frame })
     }
 }
 
 #[tactic(auto, using(crate::proofs::PutLaws::puts))]
-fn put_lin(
-    to: &mut Vec<u8>,
-    service: u32,
-    stamp: SimTime,
-    mark: u64,
-    frame: &LinFrame,
-) -> Result<(), WantOfMemory>
-    ensures { Puts result to.old.items to.new.items (rows.lin_row.spelling (held.lin_parts service stamp mark frame.now)) }
+fn put_lin(to: &mut Vec<u8>, head: Head, frame: &LinFrame) -> Result<(), WantOfMemory>
+    ensures { Puts result to.old.items to.new.items (rows.lin_row.spelling (held.lin_parts head frame.now)) }
 {
-    put_any32(to, service)?;
-    put_time(to, stamp)?;
-    put_mark(to, mark)?;
+    put_head(to, head)?;
     put_lin_id(to, frame.id)?;
     put_lin_checksum(to, frame.checksum)?;
     put_lin_status(to, frame.status)?;
@@ -352,9 +308,7 @@ impl<'a> Cursor<'a> {
     fn lin_response(&mut self, alloc: Global) -> Result<Content, ReadError>
         ensures { Gives (λ content. content) result (grammar.lin_response_at self.old) }
     {
-        let service = self.any32()?;
-        let stamp = self.time()?;
-        let mark = self.mark()?;
+        let head = self.head()?;
         let id = self.lin_id()?;
         let mode = self.lin_mode()?;
         let checksum = self.lin_checksum()?;
@@ -365,28 +319,19 @@ impl<'a> Cursor<'a> {
             checksum,
             payload,
         };
-        self.end(Content::LinResponse {
-            service,
-            stamp,
-            mark,
-            response,
-        })
+        self.end(Content::LinResponse { head, response })
     }
 }
 
 #[tactic(auto, using(crate::proofs::PutLaws::puts))]
 fn put_lin_response(
     to: &mut Vec<u8>,
-    service: u32,
-    stamp: SimTime,
-    mark: u64,
+    head: Head,
     response: &LinResponse,
 ) -> Result<(), WantOfMemory>
-    ensures { Puts result to.old.items to.new.items (rows.lin_response_row.spelling (held.response_parts service stamp mark response.now)) }
+    ensures { Puts result to.old.items to.new.items (rows.lin_response_row.spelling (held.response_parts head response.now)) }
 {
-    put_any32(to, service)?;
-    put_time(to, stamp)?;
-    put_mark(to, mark)?;
+    put_head(to, head)?;
     put_lin_id(to, response.id)?;
     put_lin_mode(to, response.mode)?;
     put_lin_checksum(to, response.checksum)?;
@@ -398,32 +343,17 @@ impl<'a> Cursor<'a> {
     fn publish(&mut self, alloc: Global) -> Result<Content, ReadError>
         ensures { Gives (λ content. content) result (grammar.publish_at self.old) }
     {
-        let service = self.any32()?;
-        let stamp = self.time()?;
-        let mark = self.mark()?;
+        let head = self.head()?;
         let payload = self.payload(alloc)?;
-        self.end(Content::Publish {
-            service,
-            stamp,
-            mark,
-            payload,
-        })
+        self.end(Content::Publish { head, payload })
     }
 }
 
 #[tactic(auto, using(crate::proofs::PutLaws::puts))]
-fn put_publish(
-    to: &mut Vec<u8>,
-    service: u32,
-    stamp: SimTime,
-    mark: u64,
-    payload: &Bytes,
-) -> Result<(), WantOfMemory>
-    ensures { Puts result to.old.items to.new.items (rows.publish_row.spelling (service, (stamp, (mark, payload.now)))) }
+fn put_publish(to: &mut Vec<u8>, head: Head, payload: &Bytes) -> Result<(), WantOfMemory>
+    ensures { Puts result to.old.items to.new.items (rows.publish_row.spelling (head, payload.now)) }
 {
-    put_any32(to, service)?;
-    put_time(to, stamp)?;
-    put_mark(to, mark)?;
+    put_head(to, head)?;
     put_payload(to, payload)
 }
 
@@ -432,15 +362,11 @@ impl<'a> Cursor<'a> {
     fn call_message(&mut self, alloc: Global) -> Result<Content, ReadError>
         ensures { Gives (λ content. content) result (grammar.call_at self.old) }
     {
-        let service = self.any32()?;
-        let stamp = self.time()?;
-        let mark = self.mark()?;
+        let head = self.head()?;
         let call = self.call()?;
         let payload = self.payload(alloc)?;
         self.end(Content::Call {
-            service,
-            stamp,
-            mark,
+            head,
             call,
             payload,
         })
@@ -450,17 +376,13 @@ impl<'a> Cursor<'a> {
 #[tactic(auto, using(crate::proofs::PutLaws::puts))]
 fn put_call_message(
     to: &mut Vec<u8>,
-    service: u32,
-    stamp: SimTime,
-    mark: u64,
+    head: Head,
     call: u64,
     payload: &Bytes,
 ) -> Result<(), WantOfMemory>
-    ensures { Puts result to.old.items to.new.items (rows.call_row.spelling (service, (stamp, (mark, (call, payload.now))))) }
+    ensures { Puts result to.old.items to.new.items (rows.call_row.spelling (head, (call, payload.now))) }
 {
-    put_any32(to, service)?;
-    put_time(to, stamp)?;
-    put_mark(to, mark)?;
+    put_head(to, head)?;
     put_call(to, call)?;
     put_payload(to, payload)
 }
@@ -470,16 +392,12 @@ impl<'a> Cursor<'a> {
     fn reply(&mut self, alloc: Global) -> Result<Content, ReadError>
         ensures { Gives (λ content. content) result (grammar.reply_at self.old) }
     {
-        let service = self.any32()?;
-        let stamp = self.time()?;
-        let mark = self.mark()?;
+        let head = self.head()?;
         let client = self.any32()?;
         let call = self.call()?;
         let payload = self.payload(alloc)?;
         self.end(Content::Reply {
-            service,
-            stamp,
-            mark,
+            head,
             client,
             call,
             payload,
@@ -490,18 +408,14 @@ impl<'a> Cursor<'a> {
 #[tactic(auto, using(crate::proofs::PutLaws::puts))]
 fn put_reply(
     to: &mut Vec<u8>,
-    service: u32,
-    stamp: SimTime,
-    mark: u64,
+    head: Head,
     client: u32,
     call: u64,
     payload: &Bytes,
 ) -> Result<(), WantOfMemory>
-    ensures { Puts result to.old.items to.new.items (rows.reply_row.spelling (service, (stamp, (mark, (client, (call, payload.now)))))) }
+    ensures { Puts result to.old.items to.new.items (rows.reply_row.spelling (head, (client, (call, payload.now)))) }
 {
-    put_any32(to, service)?;
-    put_time(to, stamp)?;
-    put_mark(to, mark)?;
+    put_head(to, head)?;
     put_any32(to, client)?;
     put_call(to, call)?;
     put_payload(to, payload)
@@ -567,51 +481,22 @@ fn put_fields(to: &mut Vec<u8>, content: &Content) -> Result<(), WantOfMemory>
         Content::Status { state, until } => put_status(to, *state, *until),
         Content::Workflow { required } => put_required_names(to, required),
         Content::Abort => Ok(()),
-        Content::Can {
-            service,
-            stamp,
-            mark,
-            frame,
-        } => put_can(to, *service, *stamp, *mark, frame),
-        Content::Eth {
-            service,
-            stamp,
-            mark,
-            payload,
-        } => put_eth(to, *service, *stamp, *mark, payload),
-        Content::Lin {
-            service,
-            stamp,
-            mark,
-            frame,
-        } => put_lin(to, *service, *stamp, *mark, frame),
-        Content::LinResponse {
-            service,
-            stamp,
-            mark,
-            response,
-        } => put_lin_response(to, *service, *stamp, *mark, response),
-        Content::Publish {
-            service,
-            stamp,
-            mark,
-            payload,
-        } => put_publish(to, *service, *stamp, *mark, payload),
+        Content::Can { head, frame } => put_can(to, *head, frame),
+        Content::Eth { head, payload } => put_eth(to, *head, payload),
+        Content::Lin { head, frame } => put_lin(to, *head, frame),
+        Content::LinResponse { head, response } => put_lin_response(to, *head, response),
+        Content::Publish { head, payload } => put_publish(to, *head, payload),
         Content::Call {
-            service,
-            stamp,
-            mark,
+            head,
             call,
             payload,
-        } => put_call_message(to, *service, *stamp, *mark, *call, payload),
+        } => put_call_message(to, *head, *call, payload),
         Content::Reply {
-            service,
-            stamp,
-            mark,
+            head,
             client,
             call,
             payload,
-        } => put_reply(to, *service, *stamp, *mark, *client, *call, payload),
+        } => put_reply(to, *head, *client, *call, payload),
         Content::Refuse { reason } => put_reason(to, *reason),
     }
 }

@@ -1,13 +1,14 @@
 //! Laws of the format: functions that do nothing, whose contracts are the laws.
 
 ghost use Rattle.std.specs.Prelude.{◌≡◌, ℕ, ◌++◌, List, [], ◌↔◌, Err};
+ghost use mathlib.Core.List.{IsPrefix};
 ghost use Rattle.sk_msg.specs.declared.content.Content.{Content};
 ghost use Rattle.sk_wire.specs.declared.fault.WireFault.{WireFault};
 ghost use Rattle.sk_wire.specs.declared.fault.BodyFault.{BodyFault};
 ghost use Rattle.sk_wire.specs.Grammar.{Spells, body_at};
 ghost use Rattle.sk_wire.specs.Faults.{BodyFaults, FrameFaults};
-ghost use Rattle.sk_wire.specs.Stream.{AreBytes, Parts, Reads};
-ghost use Rattle.sk_wire.specs.Parts.{front, parts, Broken};
+ghost use Rattle.sk_wire.specs.Stream.{AreBytes, Parts, HasParts};
+ghost use Rattle.sk_wire.specs.Parts.{front, parts, messages, Broken};
 ghost use Rattle.sk_wire.specs.Cutting.{after_pieces, joined};
 
 /// Each message has one spelling, no two messages share one, and none is a proper prefix of
@@ -18,7 +19,13 @@ pub fn one_spelling()
 
 /// A stream of bytes is read in one way, and the functions on streams answer it.
 pub fn one_reading()
-    ensures { (from : ℕ) (bytes : List ℕ) (p : Parts) → AreBytes bytes → Reads from bytes p ↔ (p ≡ parts from bytes) }
+    ensures one { (from : ℕ) (bytes : List ℕ) (p : Parts) → HasParts from bytes p → p ≡ parts from bytes }
+    ensures some { (from : ℕ) (bytes : List ℕ) → AreBytes bytes → HasParts from bytes (parts from bytes) }
+{}
+
+/// More bytes only add messages.
+pub fn growing()
+    ensures { (bytes more : List ℕ) → IsPrefix (messages bytes) (messages (bytes ++ more)) }
 {}
 
 /// The parts of a stream are those of its pieces, however it was cut.

@@ -4,10 +4,9 @@ ghost use Rattle.std.specs.Prelude.{◌≡◌, ◌≤◌, ℕ, List, length, tak
 ghost use Rattle.std.specs.Option.{ForSome};
 ghost use Rattle.sk_base.specs.Memory.{has_path, content_of, path_at, content_at};
 
-use crate::count::one_more;
 use crate::fault::Failed;
 use crate::files::{Files, Opened};
-use crate::memory::fails::{CallKind, FailAt, is_failing};
+use crate::memory::fails::{CallKind, Calls, FailAt};
 
 /// A file in memory.
 #[derive(Debug, Drop)]
@@ -20,10 +19,7 @@ pub struct MemFile {
 #[derive(Drop)]
 pub struct MemFiles {
     files: Vec<MemFile>,
-    fails: Vec<FailAt>,
-    open_calls: u64,
-    read_calls: u64,
-    faults: u64,
+    calls: Calls,
     /// Whether the last open answered Ready.
     is_ready: bool,
     /// The index of the file that was opened last.
@@ -45,10 +41,7 @@ impl MemFiles {
     {
         MemFiles {
             files,
-            fails,
-            open_calls: 0,
-            read_calls: 0,
-            faults: 0,
+            calls: Calls::new(fails),
             is_ready: false,
             opened: None,
             place: 0,
@@ -88,7 +81,7 @@ impl Files for MemFiles {
     ghost use Rattle.std.specs.Prelude.{true};
     ghost use Rattle.sk_base.specs.Memory.{content_of, opened_path};
 
-    ghost faults = { λ files. files.faults };
+    ghost faults = { λ files. files.calls.faults };
 
     ghost is_ready = { λ files. files.is_ready };
 
@@ -101,12 +94,8 @@ impl Files for MemFiles {
     ghost place = { λ files. files.place };
 
     fn open(&mut self, path: &str) -> Result<Opened, Failed> {
-        self.open_calls = self.open_calls.saturating_add(1);
         self.is_ready = false;
-        if is_failing(&self.fails, CallKind::Open, self.open_calls) {
-            self.faults = one_more(self.faults);
-            return Err(Failed);
-        }
+        self.calls.next(CallKind::Open)?;
         self.place = 0;
         self.opened = index_of(&self.files, path);
         match self.opened {
@@ -119,11 +108,7 @@ impl Files for MemFiles {
     }
 
     fn read(&mut self, buf: &mut [u8]) -> Result<usize, Failed> {
-        self.read_calls = self.read_calls.saturating_add(1);
-        if is_failing(&self.fails, CallKind::Read, self.read_calls) {
-            self.faults = one_more(self.faults);
-            return Err(Failed);
-        }
+        self.calls.next(CallKind::Read)?;
         match self.opened {
             Some(index) => {
                 let count = copy_front(buf, left_of(&self.files, index, self.place));

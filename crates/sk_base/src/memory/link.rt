@@ -4,10 +4,9 @@ ghost use Rattle.std.specs.Prelude.{◌≡◌, ◌<◌, ◌≤◌, ◌+◌, ◌+
 ghost use Rattle.sk_base.specs.Talk.{said_by_take, said_by_give, TakesWithin, GivesWithin, given as given_in};
 ghost use Rattle.sk_base.specs.Memory.{talk_of};
 
-use crate::count::one_more;
 use crate::fault::Failed;
 use crate::link::{Gave, Link, Took};
-use crate::memory::fails::{CallKind, FailAt, is_failing};
+use crate::memory::fails::{CallKind, Calls, FailAt};
 use std::alloc::{AllocError, Global};
 
 /// What the peer has for a take.
@@ -48,10 +47,7 @@ pub struct MemLink {
     piece_at: usize,
     gives: Vec<MemGive>,
     give_at: usize,
-    fails: Vec<FailAt>,
-    take_calls: u64,
-    give_calls: u64,
-    faults: u64,
+    calls: Calls,
     log: Vec<Kept>,
     given: Vec<u8>,
     ghost all_given: { given.items ≡ given_in (talk_of log.items) },
@@ -103,10 +99,7 @@ impl MemLink {
             piece_at: 0,
             gives,
             give_at: 0,
-            fails,
-            take_calls: 0,
-            give_calls: 0,
-            faults: 0,
+            calls: Calls::new(fails),
             log: Vec::new(alloc),
             given: Vec::new(alloc),
         }
@@ -123,7 +116,7 @@ impl MemLink {
     fn play_take(&mut self, buf: &mut [u8]) -> Result<Took, AllocError>
         requires { 0 < length buf.old }
         ensures within { IfOk result (TakesWithin (length buf.old)) }
-        ensures faults { self.new.faults ≡ self.old.faults }
+        ensures faults { self.new.calls.faults ≡ self.old.calls.faults }
         ensures ok { IfOk result (λ took. talk_of self.new.log.items ≡ talk_of self.old.log.items ++ said_by_take took buf.new ∷ []) }
         ensures same { OnErr result (talk_of self.new.log.items ≡ talk_of self.old.log.items) }
     {
@@ -169,7 +162,7 @@ impl MemLink {
     fn play_give(&mut self, piece: &[u8]) -> Result<Gave, AllocError>
         requires { 0 < length piece.now }
         ensures within { IfOk result (GivesWithin (length piece.now)) }
-        ensures faults { self.new.faults ≡ self.old.faults }
+        ensures faults { self.new.calls.faults ≡ self.old.calls.faults }
         ensures ok { IfOk result (λ gave. talk_of self.new.log.items ≡ talk_of self.old.log.items ++ said_by_give gave piece.now ∷ []) }
         ensures same { OnErr result (talk_of self.new.log.items ≡ talk_of self.old.log.items) }
     {
@@ -196,39 +189,25 @@ impl Link for MemLink {
     ghost use Rattle.std.specs.Prelude.{true};
     ghost use Rattle.sk_base.specs.Memory.{talk_of};
 
-    ghost faults = { λ link. link.faults };
+    ghost faults = { λ link. link.calls.faults };
 
     ghost tells = { λ _. true };
 
     ghost talk = { λ link. talk_of link.log.items };
 
     fn take(&mut self, buf: &mut [u8]) -> Result<Took, Failed> {
-        self.take_calls = self.take_calls.saturating_add(1);
-        if is_failing(&self.fails, CallKind::Take, self.take_calls) {
-            self.faults = one_more(self.faults);
-            return Err(Failed);
-        }
+        self.calls.next(CallKind::Take)?;
         match self.play_take(buf) {
             Ok(took) => Ok(took),
-            Err(_) => {
-                self.faults = one_more(self.faults);
-                Err(Failed)
-            }
+            Err(_) => Err(self.calls.fail()),
         }
     }
 
     fn give(&mut self, piece: &[u8]) -> Result<Gave, Failed> {
-        self.give_calls = self.give_calls.saturating_add(1);
-        if is_failing(&self.fails, CallKind::Give, self.give_calls) {
-            self.faults = one_more(self.faults);
-            return Err(Failed);
-        }
+        self.calls.next(CallKind::Give)?;
         match self.play_give(piece) {
             Ok(gave) => Ok(gave),
-            Err(_) => {
-                self.faults = one_more(self.faults);
-                Err(Failed)
-            }
+            Err(_) => Err(self.calls.fail()),
         }
     }
 }

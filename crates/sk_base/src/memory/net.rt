@@ -1,6 +1,8 @@
 //! A net in memory.
 
 ghost use Rattle.std.specs.Prelude.{◌≡◌, ℕ, true, false, []};
+ghost use Rattle.sk_base.specs.Calls.{IsRefused};
+ghost use Rattle.sk_base.specs.MemoryNet.{calls_of};
 
 use crate::count::one_more;
 use crate::fault::Failed;
@@ -11,9 +13,11 @@ use crate::text::Text;
 use std::alloc::Global;
 
 /// A call with its answer, as it is kept.
-#[derive(Clone, Copy, Debug, PartialEq, Eq)]
+#[derive(Drop)]
 enum Kept {
     NobodyWaited,
+    /// A listen at, or a connect to, this address failed.
+    Refused(Text),
 }
 
 /// A link that was opened.
@@ -26,6 +30,7 @@ struct Opened {
 /// A net that nobody calls, and whose listens and connects fail. So it has no links yet.
 #[derive(Drop)]
 pub struct MemNet {
+    alloc: Global,
     /// By their numbers.
     links: Vec<Opened>,
     calls: Vec<Kept>,
@@ -41,10 +46,21 @@ impl MemNet {
         ensures faults { ⟦<MemNet as Net>⟧.faults result ≡ 0 }
     {
         MemNet {
+            alloc,
             links: Vec::new(alloc),
             calls: Vec::new(alloc),
             faults: 0,
         }
+    }
+}
+
+/// Keeps that a call for this address failed, where there is memory for it.
+fn keep_refused(alloc: Global, calls: &mut Vec<Kept>, at: &Text)
+    ensures { IsRefused at.now (calls_of calls.old.items) (calls_of calls.new.items) }
+{
+    if let Ok(address) = at.copy(alloc) {
+        // Without memory it stays untold.
+        let _ = calls.push(Kept::Refused(address));
     }
 }
 
@@ -73,12 +89,14 @@ impl Net for MemNet {
         }
     }
 
-    fn listen(&mut self, _at: &Text) -> Result<Text, Failed> {
+    fn listen(&mut self, at: &Text) -> Result<Text, Failed> {
+        keep_refused(self.alloc, &mut self.calls, at);
         self.faults = one_more(self.faults);
         Err(Failed)
     }
 
-    fn connect(&mut self, _at: &Text) -> Result<u32, Failed> {
+    fn connect(&mut self, at: &Text) -> Result<u32, Failed> {
+        keep_refused(self.alloc, &mut self.calls, at);
         self.faults = one_more(self.faults);
         Err(Failed)
     }

@@ -2,9 +2,8 @@
 
 ghost use Rattle.std.specs.Prelude.{◌≡◌, true, []};
 
-use crate::count::one_more;
 use crate::fault::Failed;
-use crate::memory::fails::{CallKind, FailAt, is_failing};
+use crate::memory::fails::{CallKind, Calls, FailAt};
 use crate::sink::Sink;
 use std::alloc::Global;
 
@@ -15,10 +14,7 @@ const MOST_AT_ONCE: usize = 64;
 #[derive(Drop)]
 pub struct MemSink {
     written: Vec<u8>,
-    fails: Vec<FailAt>,
-    write_calls: u64,
-    flush_calls: u64,
-    faults: u64,
+    calls: Calls,
 }
 
 impl MemSink {
@@ -30,10 +26,7 @@ impl MemSink {
     {
         MemSink {
             written: Vec::new(alloc),
-            fails,
-            write_calls: 0,
-            flush_calls: 0,
-            faults: 0,
+            calls: Calls::new(fails),
         }
     }
 
@@ -48,34 +41,22 @@ impl MemSink {
 impl Sink for MemSink {
     ghost use Rattle.std.specs.Prelude.{true};
 
-    ghost faults = { λ sink. sink.faults };
+    ghost faults = { λ sink. sink.calls.faults };
 
     ghost tells = { λ _. true };
 
     ghost written = { λ sink. sink.written.items };
 
     fn write(&mut self, piece: &[u8]) -> Result<usize, Failed> {
-        self.write_calls = self.write_calls.saturating_add(1);
-        if is_failing(&self.fails, CallKind::Write, self.write_calls) {
-            self.faults = one_more(self.faults);
-            return Err(Failed);
-        }
+        self.calls.next(CallKind::Write)?;
         let count = piece.len().min(MOST_AT_ONCE);
         match self.written.extend_from_slice(&piece[..count]) {
             Ok(()) => Ok(count),
-            Err(_) => {
-                self.faults = one_more(self.faults);
-                Err(Failed)
-            }
+            Err(_) => Err(self.calls.fail()),
         }
     }
 
     fn flush(&mut self) -> Result<(), Failed> {
-        self.flush_calls = self.flush_calls.saturating_add(1);
-        if is_failing(&self.fails, CallKind::Flush, self.flush_calls) {
-            self.faults = one_more(self.faults);
-            return Err(Failed);
-        }
-        Ok(())
+        self.calls.next(CallKind::Flush)
     }
 }

@@ -5,12 +5,14 @@ use State::{
     ReadyToRun, Running, ServicesCreated, Shutdown, ShuttingDown, Stopped, Stopping,
 };
 use sk_base::WantOfMemory;
+use sk_msg::rules::is_told;
 use std::alloc::Global;
+use std::process;
 use std::test::Fail;
 
-/// Of each state: where its edges lead, and which commands it has edges of.
-const TABLE: [(State, &[State], &[Command]); 13] = [
-    (Invalid, &[ServicesCreated], &[]),
+/// Of each state that a lifecycle may be in: where its edges lead, and which commands it has edges
+/// of.
+const TABLE: [(State, &[State], &[Command]); 12] = [
     (
         ServicesCreated,
         &[CommunicationInitializing, Error, Aborting],
@@ -91,7 +93,9 @@ const CHAIN: [State; 9] = [
     Shutdown,
 ];
 
-fn at(state: State) -> Lifecycle {
+/// A coordinated one in this state, which isn't Invalid.
+fn at(rt: &impl process::Abort, state: State) -> Lifecycle {
+    assert!(rt; is_told(state));
     Lifecycle {
         coordinated: true,
         state,
@@ -101,8 +105,9 @@ fn at(state: State) -> Lifecycle {
 #[test]
 fn every_state_with_each_state_and_each_command(rt: HostRuntime) {
     for (from, next, commands) in TABLE {
+        assert_eq!(rt; at(&rt, from).enter(Invalid), Err(from), "{from:?}");
         for (to, ..) in TABLE {
-            let mut lifecycle = at(from);
+            let mut lifecycle = at(&rt, from);
             let expected = if next.contains(&to) {
                 Ok(())
             } else {
@@ -113,7 +118,7 @@ fn every_state_with_each_state_and_each_command(rt: HostRuntime) {
             assert_eq!(rt; lifecycle.state(), then, "{from:?} to {to:?}");
         }
         for (command, to) in COMMANDS {
-            let mut lifecycle = at(from);
+            let mut lifecycle = at(&rt, from);
             let accepts = commands.contains(&command);
             let expected = if accepts {
                 Verdict::Accepted
@@ -129,13 +134,16 @@ fn every_state_with_each_state_and_each_command(rt: HostRuntime) {
 
 #[test]
 fn commands_in_turn(rt: HostRuntime) {
-    let mut lifecycle = at(Running);
+    let mut lifecycle = at(&rt, Running);
     assert_eq!(rt; lifecycle.ask(Pause), Verdict::Accepted);
     assert_eq!(rt; lifecycle.ask(Pause), Verdict::Refused(Paused));
     assert_eq!(rt; lifecycle.ask(Continue), Verdict::Accepted);
     assert_eq!(rt; lifecycle.ask(Continue), Verdict::Refused(Running));
-    assert_eq!(rt; at(Shutdown).ask(Stop), Verdict::Refused(Shutdown));
-    assert_eq!(rt; at(ShuttingDown).ask(Abort), Verdict::Refused(ShuttingDown));
+    assert_eq!(rt; at(&rt, Shutdown).ask(Stop), Verdict::Refused(Shutdown));
+    assert_eq!(rt;
+        at(&rt, ShuttingDown).ask(Abort),
+        Verdict::Refused(ShuttingDown)
+    );
 }
 
 /// Everything that a state may wait for, beside what those that are required have reached.
@@ -184,7 +192,7 @@ fn the_chain_waits(rt: HostRuntime) -> Result<(), Fail> {
     for (from, to, waits) in WAITS {
         for missing in 0..6usize {
             let view = one(rt.alloc(), if missing == 5 { Invalid } else { from })?;
-            let mut lifecycle = at(from);
+            let mut lifecycle = at(&rt, from);
             let expected = if waits.contains(&missing) {
                 None
             } else {
@@ -218,9 +226,9 @@ fn an_autonomous_one_waits_for_nobody(rt: HostRuntime) -> Result<(), Fail> {
         None,
         "a coordinated one waits for the workflow"
     );
-    for state in [Invalid, Paused, Error, Shutdown, Aborting] {
+    for state in [Paused, Error, Shutdown, Aborting] {
         assert_eq!(rt;
-            at(state).advance(&nothing, ALL),
+            at(&rt, state).advance(&nothing, ALL),
             None,
             "{state:?} isn't in the chain, or at its end"
         );

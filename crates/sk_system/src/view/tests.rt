@@ -1,87 +1,50 @@
 use super::*;
-use State::{
-    Aborting, CommunicationInitialized, CommunicationInitializing, Error, Invalid, Paused,
-    ReadyToRun, Running, ServicesCreated, Shutdown, ShuttingDown, Stopped, Stopping,
-};
+use State::{Aborting, Error, Invalid, Paused, Running, ServicesCreated, Shutdown, Stopping};
 use std::test::Fail;
 
-const STATES: [State; 13] = [
-    Invalid,
-    ServicesCreated,
-    CommunicationInitializing,
-    CommunicationInitialized,
-    ReadyToRun,
-    Running,
-    Paused,
-    Stopping,
-    Stopped,
-    Error,
-    ShuttingDown,
-    Shutdown,
-    Aborting,
-];
-
-/// What two required participants add up to, by number: a row for each state of the one, a column
-/// for each state of the other. It was made by a program apart from this crate.
+/// What two required participants add up to, by tens of the states' numbers: a row for each state
+/// of the one, a column for each state of the other. It was made by a program apart from this
+/// crate.
 const PAIRS: [[u8; 13]; 13] = [
     [0, 0, 0, 0, 0, 0, 0, 0, 0, 0, 0, 0, 0],
-    [0, 10, 10, 10, 10, 10, 10, 70, 70, 90, 70, 70, 120],
-    [0, 10, 20, 20, 20, 20, 20, 70, 70, 90, 70, 70, 120],
-    [0, 10, 20, 30, 30, 30, 30, 70, 70, 90, 70, 70, 120],
-    [0, 10, 20, 30, 40, 40, 40, 70, 70, 90, 70, 70, 120],
-    [0, 10, 20, 30, 40, 50, 60, 70, 70, 90, 70, 70, 120],
-    [0, 10, 20, 30, 40, 60, 60, 70, 70, 90, 70, 70, 120],
-    [0, 70, 70, 70, 70, 70, 70, 70, 70, 90, 70, 70, 120],
-    [0, 70, 70, 70, 70, 70, 70, 70, 80, 90, 80, 80, 120],
-    [0, 90, 90, 90, 90, 90, 90, 90, 90, 90, 90, 90, 120],
-    [0, 70, 70, 70, 70, 70, 70, 70, 80, 90, 100, 100, 120],
-    [0, 70, 70, 70, 70, 70, 70, 70, 80, 90, 100, 110, 120],
-    [
-        0, 120, 120, 120, 120, 120, 120, 120, 120, 120, 120, 120, 120,
-    ],
+    [0, 1, 1, 1, 1, 1, 1, 7, 7, 9, 7, 7, 12],
+    [0, 1, 2, 2, 2, 2, 2, 7, 7, 9, 7, 7, 12],
+    [0, 1, 2, 3, 3, 3, 3, 7, 7, 9, 7, 7, 12],
+    [0, 1, 2, 3, 4, 4, 4, 7, 7, 9, 7, 7, 12],
+    [0, 1, 2, 3, 4, 5, 6, 7, 7, 9, 7, 7, 12],
+    [0, 1, 2, 3, 4, 6, 6, 7, 7, 9, 7, 7, 12],
+    [0, 7, 7, 7, 7, 7, 7, 7, 7, 9, 7, 7, 12],
+    [0, 7, 7, 7, 7, 7, 7, 7, 8, 9, 8, 8, 12],
+    [0, 9, 9, 9, 9, 9, 9, 9, 9, 9, 9, 9, 12],
+    [0, 7, 7, 7, 7, 7, 7, 7, 8, 9, 10, 10, 12],
+    [0, 7, 7, 7, 7, 7, 7, 7, 8, 9, 10, 11, 12],
+    [0, 12, 12, 12, 12, 12, 12, 12, 12, 12, 12, 12, 12],
 ];
 
-/// Two participants, both required.
-fn two(
-    alloc: Global,
-    one: Option<State>,
-    other: Option<State>,
-) -> Result<SystemView, WantOfMemory> {
+/// The system state of two required participants in the states of these numbers.
+fn both(alloc: Global, one: u8, other: u8) -> Result<u8, WantOfMemory> {
     let mut view = SystemView::new(alloc, 2)?;
     view.set_required(vec![in alloc; Some(0), Some(1)]?);
-    if let Some(state) = one {
+    if let Some(state) = State::from_number(one) {
         view.note(0, state);
     }
-    if let Some(state) = other {
+    if let Some(state) = State::from_number(other) {
         view.note(1, state);
     }
-    Ok(view)
-}
-
-#[test]
-fn two_required_participants(rt: HostRuntime) -> Result<(), Fail> {
-    for (one, other, whole) in [
-        (Some(Running), Some(Paused), Paused),
-        (Some(ReadyToRun), Some(Paused), ReadyToRun),
-        (Some(Running), Some(Stopping), Stopping),
-        (Some(Stopped), Some(Shutdown), Stopped),
-        (Some(Shutdown), Some(Shutdown), Shutdown),
-        (Some(Error), Some(Aborting), Aborting),
-        (Some(Running), None, Invalid),
-    ] {
-        let view = two(rt.alloc(), one, other)?;
-        assert_eq!(rt; view.system(), whole, "{one:?} and {other:?}");
-    }
-    Ok(())
+    Ok(view.system().number())
 }
 
 #[test]
 fn every_pair_of_states(rt: HostRuntime) -> Result<(), Fail> {
-    for (one, row) in STATES.iter().zip(PAIRS.iter()) {
-        for (other, whole) in STATES.iter().zip(row.iter()) {
-            let view = two(rt.alloc(), Some(*one), Some(*other))?;
-            assert_eq!(rt; view.system().number(), *whole, "{one:?} and {other:?}");
+    let mut one = 0u8;
+    for row in PAIRS {
+        let mut other = 0u8;
+        for whole in row {
+            let system = both(rt.alloc(), one, other)?;
+            assert_eq!(rt; system, whole.saturating_mul(10), "{one} and {other}");
+            other = other.saturating_add(10);
         }
+        one = one.saturating_add(10);
     }
     Ok(())
 }
@@ -91,13 +54,14 @@ fn who_counts(rt: HostRuntime) -> Result<(), Fail> {
     let mut view = SystemView::new(rt.alloc(), 3)?;
     view.note(0, Running);
     view.note(1, Aborting);
-    view.note(2, Running);
     assert_eq!(rt; view.system(), Invalid, "the workflow isn't known");
     assert!(rt;
         !view.all_reached(ServicesCreated),
         "the workflow isn't known"
     );
     view.set_required(vec![in rt.alloc(); Some(0), Some(2)]?);
+    assert_eq!(rt; view.system(), Invalid, "nothing is known of one");
+    view.note(2, Running);
     assert_eq!(rt; view.system(), Running, "who isn't required doesn't count");
     assert!(rt; view.all_reached(Running));
     assert!(rt; !view.all_reached(Stopping));
@@ -115,9 +79,19 @@ fn who_counts(rt: HostRuntime) -> Result<(), Fail> {
         Invalid,
         "a name that is no participant has no known state"
     );
-    assert!(rt; !view.all_reached(ServicesCreated));
     view.set_required(vec![in rt.alloc()]?);
     assert_eq!(rt; view.system(), Invalid, "nobody is required");
     assert!(rt; view.all_reached(Shutdown), "nobody is waited for");
+    Ok(())
+}
+
+#[test]
+fn the_last_state_of_each(rt: HostRuntime) -> Result<(), Fail> {
+    let mut view = SystemView::new(rt.alloc(), 2)?;
+    view.note(1, Running);
+    view.note(1, Paused);
+    assert_eq!(rt; view.last(1), Some(Paused));
+    assert_eq!(rt; view.last(0), None, "it told none");
+    assert_eq!(rt; view.last(2), None, "there are two");
     Ok(())
 }

@@ -13,5 +13,5 @@ pub loop-index-preserved : goal.loop-index-preserved
 loop-index-preserved c =
     let read = rw c.deref.ensures.value at c.in_ok-entry.ensures.value in
     let rules = rw c.deref.ensures.value at c.in_ok-entry.ensures.rules in
-    rw (c.in_ok-push.ensures.items, c.in_ok-entry.ensures.warned)
+    rw (c.in_ok-push.ensures.items, c.in_ok-entry.ensures.noted)
     (read_more _ _ _ _ _ _ _ _ _ _ c.loop-index-test.true c.index-items-index.is c.in_ok-place.ensures c.loop-index.invariant read rules)

@@ -5,4 +5,4 @@ use Rattle.sk_config.proofs.read.read_entries.Given as goal
 
 abbrev pub invariant-loop-index : goal.invariant-loop-index
 invariant-loop-index l =
-    IsReadTo l.kind l.at l.fn.warnings.items (items_view l.items) l.entries.items l.warnings.items l.index (items_view (drop l.index l.items))
+    IsReadTo l.kind l.at l.fn.unused.items (items_view l.items) l.entries.items l.unused.items l.index (items_view (drop l.index l.items))

@@ -6,7 +6,7 @@ use Rattle.sk_mesh.proofs.making.join.Goals as goal
 pub loop-earlier-init : goal.loop-earlier-init
 loop-earlier-init c = record {
   number = ap (λ (w : Account). w.number) c.alone-newcomer.ensures;
-  met = none_met c.args.capacity c.args.ends.now c.alone-newcomer.result (ap (λ (w : Account). w.links) c.alone-newcomer.ensures);
+  met = none_met c.args.capacity c.args.ends.now c.alone-newcomer.result (ap (λ (w : Account). w.pairs) c.alone-newcomer.ensures);
 }
 
 pub loop-earlier-preserved : goal.loop-earlier-preserved

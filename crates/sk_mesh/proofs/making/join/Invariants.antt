@@ -1,5 +1,5 @@
 use Rattle.std.proofs.Common.{◌≡◌}
-use Rattle.sk_mesh.specs.Growth.{HaveMet}
+use Rattle.sk_mesh.proofs.Growing.{HaveMet}
 use Rattle.sk_mesh.proofs.making.join.Given as goal
 
 abbrev pub invariant-loop-earlier : goal.invariant-loop-earlier

@@ -1,5 +1,5 @@
 use Rattle.std.proofs.Common.{◌≡◌, ◌++◌, ◌∷◌, ◌+◌, [], ◌∙◌, sym, ap, length, arith, subst, length-append}
-use Rattle.sk_mesh.specs.Growth.{AllJoined}
+use Rattle.sk_mesh.proofs.Growing.{AllJoined}
 use Rattle.sk_mesh.proofs.ByPlace.{take-whole}
 use Rattle.sk_mesh.proofs.Growths.{grows, is_mesh, all_unused}
 use Rattle.sk_mesh.proofs.making.mesh.Goals as goal

@@ -1,5 +1,5 @@
 use Rattle.std.proofs.Common.{◌≡◌, length}
-use Rattle.sk_mesh.specs.Growth.{AllJoined}
+use Rattle.sk_mesh.proofs.Growing.{AllJoined}
 use Rattle.sk_mesh.proofs.making.mesh.Given as goal
 
 abbrev pub invariant-loop-number : goal.invariant-loop-number

@@ -13,7 +13,7 @@ last_two es rest rest' a b size mesh is is' =
     let first : slice_get rest 0 ≡ Some a = ap (λ l. slice_get l 0) is' ∙ slice_get-last rest' a 0 (omega arith) in
     let at0 : slice_get es 0 ≡ Some a = ap (λ l. slice_get l 0) is ∙ slice_get-front rest (b ∷ []) 0 a first in
     let at1 : slice_get es 1 ≡ Some b = ap (λ l. slice_get l 1) is ∙ slice_get-last rest b 1 (omega arith) in
-    mesh.linked 0 1 (place a) (place b) (λ e. omega arith) (slice_get-map place es 0 ∙ ap (option_map place) at0) (slice_get-map place es 1 ∙ ap (option_map place) at1)
+    mesh.joined 0 1 (place a) (place b) (λ e. omega arith) (slice_get-map place es 0 ∙ ap (option_map place) at0) (slice_get-map place es 1 ∙ ap (option_map place) at1)
 
 pub returns : goal.returns
 returns g c =

@@ -17,8 +17,8 @@ returns-then-announced-lt-SHORTEST_BODY c = front-low c.args.bytes.now (omega ar
 pub returns-then-announced-gt-LONGEST_BODY : goal.returns-then-announced-gt-LONGEST_BODY
 returns-then-announced-gt-LONGEST_BODY c = front-high c.args.bytes.now (omega arith) (omega arith)
 
-pub returns-then-behind-len : goal.returns-then-behind-len
-returns-then-behind-len c =
+pub returns-then-behind-announced : goal.returns-then-behind-announced
+returns-then-behind-announced c =
     let a : Announces c.args.bytes.now = record { head = omega arith; least = omega arith; most = omega arith } in
     front-cut c.args.bytes.now a (omega arith)
 

@@ -9,8 +9,8 @@ returns-in_default c =
     let over = passed_over c.args.self.now c.args.name.now c.args.message.now (rw is at c.in_default.not-Leave) (rw is at c.in_default.not-Status) in
     record {
       kept = sym over;
-      lines = c.at_rest.ensures.lines ∙ sym (system_lines-same c.args.self.now.printed);
-      abort = c.at_rest.ensures.abort ∙ sym (no_second c.args.self.now.aborted);
+      lines = rw over (c.at_rest.ensures.lines ∙ sym (system_lines-same c.args.self.now.printed));
+      abort = rw over (c.at_rest.ensures.abort ∙ sym (no_second c.args.self.now.aborted));
       ended = c.at_rest.ensures.ended;
       same = tt;
     }

@@ -7,12 +7,12 @@ use Rattle.sk_timesync.proofs.steps.Steps.announce.Goals as goal
 
 pub invariant_of-self : goal.invariant_of-self
 invariant_of-self c =
-    let s = stands c.deref.ensures.value c.self.invariant.rising c.place_of-place.ensures.within c.place_of-place.ensures.found c.index_mut.ensures.value in
+    let s = stands c.deref.ensures.value c.self.invariant.rising c.index_of-index.ensures.within c.index_of-index.ensures.found c.index_mut.ensures.value in
     kept-set _ c.announce.new.self c.self.invariant s c.announce.ensures.number
 
 pub returns : goal.returns
 returns c =
-    let s = stands c.deref.ensures.value c.self.invariant.rising c.place_of-place.ensures.within c.place_of-place.ensures.found c.index_mut.ensures.value in
+    let s = stands c.deref.ensures.value c.self.invariant.rising c.index_of-index.ensures.within c.index_of-index.ensures.found c.index_mut.ensures.value in
     record {
       noted = on_ok_weaker c.announce.result
           (λ e. rw (← c.self.view_is, set-stands (with_announced c.args.at) c.announce.new.self s e) refl) c.announce.ensures.noted;

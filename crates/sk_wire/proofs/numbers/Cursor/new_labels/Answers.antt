@@ -4,10 +4,9 @@ use Rattle.std.proofs.lemmas.Result.{err_from_is_err_and}
 use Rattle.sk_msg.specs.declared.label.Label.{Label}
 use Rattle.sk_msg.specs.Each.{each_after}
 use Rattle.sk_msg.specs.Specs.{is_newly_keyed}
-use Rattle.sk_msg.proofs.LabelLaws.{each_after-snoc}
 use Rattle.sk_wire.specs.Reading.{Fails}
 use Rattle.sk_wire.specs.Kinds.{new_label}
-use Rattle.sk_wire.proofs.ListLoop.{SoFar, goes_on, ends}
+use Rattle.sk_wire.proofs.ListLoop.{SoFar, goes_on, ends, each_after-snoc}
 use Rattle.sk_wire.proofs.numbers.Cursor.new_labels.Goals as goal
 
 pub returns-in_err-label-clause-read : goal.returns-in_err-label-clause-read

@@ -1,0 +1,13 @@
+pub mod Meets
+pub mod Once
+pub mod Announced
+pub mod Barrier
+pub mod Safety
+pub mod Heard
+pub mod Refused
+pub mod Examples
+pub mod Journals
+pub mod Wrong
+pub mod Unsafe
+pub mod Living
+pub mod Acausal

@@ -1,0 +1,4 @@
+pub mod Kept
+pub mod Lin
+pub mod Answers
+pub mod Table

@@ -1,0 +1,12 @@
+-- What the commands on files are to do, by their words.
+use Rattle.std.specs.Prelude.{◌≡◌, ℕ, Option, Some, None, option_map, List}
+use Rattle.clap.specs.Words.{Text}
+use Rattle.sk_tools.specs.Words.{file_to_check}
+
+-- a case for each command
+pub data Job : Type 0 where
+  Check : List ℕ → Job
+
+-- the job that words ask for
+abbrev pub offline_job : List Text → Option Job
+offline_job words = option_map Check (file_to_check words)

@@ -1,0 +1,44 @@
+//! The words of `check`.
+
+ghost use Rattle.std.specs.Prelude.{◌≡◌, Some, IfOk, map, string_bytes, MatchResult};
+ghost use Rattle.clap.specs.Words.{app_of};
+ghost use Rattle.sk_tools.specs.Words.{check_app, file_to_check};
+ghost use Rattle.sk_tools.specs.Usage.{IsRefusalOf};
+
+use crate::words::{Refused, is_command, needed, parse, value};
+use clap::Command;
+use std::alloc::{AllocError, Global};
+
+const ABOUT: &str = "Reads a participant's configuration and writes its canonical text";
+
+const FILE_HELP: &str = "A JSON file; - is a file of that name";
+
+const STATUSES: &str =
+    "Status: 0 written, 1 no configuration, 2 usage or help, 3 read fault, 4 write fault, 5 out of memory";
+
+/// Reads `check FILE`, and answers the file.
+pub fn read_check<'a>(alloc: Global, words: &'a [String]) -> Result<&'a str, Refused>
+    ensures { MatchResult result
+        (λ file. file_to_check (map string_bytes words.entry.now) ≡ Some file.now)
+        (IsRefusalOf (file_to_check (map string_bytes words.entry.now))) }
+{
+    if !is_command(words, "check") {
+        return Err(Refused::Usage);
+    }
+    let matches = parse(alloc, check_command(alloc)?, words)?;
+    match value(&matches, "FILE") {
+        Some(file) => Ok(file),
+        None => Err(Refused::Usage),
+    }
+}
+
+fn check_command<'a>(alloc: Global) -> Result<Command<'a>, AllocError>
+    ensures { IfOk result (λ command. app_of command ≡ check_app) }
+{
+    let command = Command::new(alloc, "check")
+        .about(ABOUT)
+        .after_help(STATUSES)
+        .bin_name("silkit check")?;
+    let file = needed(alloc, "FILE").help(FILE_HELP);
+    Ok(command.arg(file)?)
+}
