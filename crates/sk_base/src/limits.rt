@@ -38,7 +38,8 @@ pub const LONGEST_BODY: usize = 8192;
 /// refused.
 pub const MOST_PARTICIPANTS: u32 = 32;
 
-/// The most tools that one participant knows at a time. The next one is refused as full.
+/// The most tools that are added to one participant, those that have left or are gone counted. The
+/// next one is refused as full.
 pub const MOST_TOOLS: u32 = 4;
 
 /// The most that one registry has joined at a time: all participants and tools. The next one is
@@ -70,11 +71,12 @@ pub const MOST_RING_SLOTS: usize = 1024;
 /// is handed back, and it is noted that it was over.
 pub const MOST_ACTIONS: usize = 256;
 
-/// A journal of so many entries is full, judged after each call: a fault is noted and the state
-/// is Error. At 64 bytes an entry they take 32 MB.
+/// A journal of so many entries is full. It is judged after each call, while the state has an edge to
+/// Error: a fault is noted, and Error entered. At 64 bytes an entry they take 32 MB.
 pub const MOST_ENTRIES: usize = 500_000;
 
-/// So many bytes of payloads that were got and put fill a journal, as its entries do: 32 MiB.
+/// So many bytes of payloads that were got and put fill a journal likewise, judged behind its entries:
+/// 32 MiB.
 pub const MOST_JOURNAL_PAYLOAD: u64 = 33_554_432;
 
 /// The most bytes that are taken from one link: counts of them stay far below the end of a `u64`.

@@ -1,8 +1,8 @@
-//! Reading JSON: what stands at a key, and what is wrong there. The readers of all files share it,
-//! each with its own type of fault.
+//! Reading JSON: what stands at a key, and what is wrong there. Readers of several kinds of files can
+//! share it, each with its own type of fault.
 //!
-//! A value that is looked at costs no memory. A path is made where something is wrong, and for each
-//! key that an object doesn't have.
+//! A value that is looked at costs no memory, but for a text, which is copied. A path is made where
+//! something is wrong, and for each key that an object has and may not have.
 //!
 //! ```text
 //! let value = json::parse::<MyFault>(alloc, bytes)?;
@@ -22,7 +22,7 @@ use serde_json::{Map, Value};
 use sk_base::{Name, Text, WantOfMemory};
 use std::alloc::Global;
 
-/// A fault that a reader of JSON answers, and where it is.
+/// A fault that a reader of JSON answers, with the path where it is, if it is at one.
 pub trait JsonFault {
     // How each fault is said.
     ghost faults: { Faults Self };
@@ -35,7 +35,7 @@ pub trait JsonFault {
     fn missing(path: Path) -> Self
         ensures { result ≡ faults.missing path };
 
-    /// A value of another JSON type, or a number that isn't whole.
+    /// A value of another JSON type, or a number that isn't a whole one from 0 to 2^64 - 1.
     fn wrong_type(path: Path) -> Self
         ensures { result ≡ faults.wrong_type path };
 
@@ -139,7 +139,7 @@ pub fn enter<K: KnownKeys, E: JsonFault>(
     }
 }
 
-/// Notes the keys of these members that the object doesn't have, in byte order.
+/// Notes the paths of those of these members whose keys the object may not have, in byte order.
 fn note_unknown<K: KnownKeys>(
     alloc: Global,
     keys: &K,
@@ -182,7 +182,8 @@ pub fn text_at<T: JsonText, E: JsonFault>(
     }
 }
 
-/// The whole number at a key, where there is one. What is there has to be a number from low to high.
+/// The whole number at a key, where there is one. What is there has to be a whole number from low to
+/// high.
 #[tactic(auto, unfolding(crate::specs::Json::number_fault))]
 pub fn number_at<E: JsonFault>(
     alloc: Global,
@@ -237,7 +238,7 @@ pub fn list_at<'a, E: JsonFault>(
     }
 }
 
-/// The fault of a key that isn't there.
+/// The fault of a key that isn't there, or want of memory for its path.
 pub fn missing_at<E: JsonFault>(alloc: Global, at: &Path, key: &str) -> E
     ensures { (result ≡ E.faults.no_memory) ⊎ (result ≡ E.faults.missing (key_at at.now key.now)) }
 {
@@ -247,7 +248,7 @@ pub fn missing_at<E: JsonFault>(alloc: Global, at: &Path, key: &str) -> E
     }
 }
 
-/// The fault of a value of another type at a key.
+/// The fault of a value of another type at a key, or want of memory for its path.
 pub fn wrong_type_at<E: JsonFault>(alloc: Global, at: &Path, key: &str) -> E
     ensures { (result ≡ E.faults.no_memory) ⊎ (result ≡ E.faults.wrong_type (key_at at.now key.now)) }
 {
@@ -257,7 +258,7 @@ pub fn wrong_type_at<E: JsonFault>(alloc: Global, at: &Path, key: &str) -> E
     }
 }
 
-/// The fault of a text at a key that isn't of its kind.
+/// The fault of a text at a key that isn't of its kind, or want of memory for its path.
 pub fn bad_text_at<E: JsonFault>(alloc: Global, at: &Path, key: &str) -> E
     ensures { (result ≡ E.faults.no_memory) ⊎ (result ≡ E.faults.bad_text (key_at at.now key.now)) }
 {
@@ -267,7 +268,8 @@ pub fn bad_text_at<E: JsonFault>(alloc: Global, at: &Path, key: &str) -> E
     }
 }
 
-/// The fault of a number or a count at a key that is out of its range.
+/// The fault of a number or a count at a key that is out of its range, or want of memory for its
+/// path.
 pub fn out_of_range_at<E: JsonFault>(alloc: Global, at: &Path, key: &str) -> E
     ensures { (result ≡ E.faults.no_memory) ⊎ (result ≡ E.faults.out_of_range (key_at at.now key.now)) }
 {

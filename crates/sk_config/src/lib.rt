@@ -27,8 +27,6 @@ pub mod laws;
 mod overrides;
 mod path;
 mod read;
-#[cfg(test)]
-mod tests;
 mod warning;
 mod write;
 

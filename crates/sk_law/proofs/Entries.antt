@@ -1,7 +1,8 @@
 -- One entry more, and what each reading makes of it.
-use Rattle.std.specs.Prelude.{◌≡◌, refl, ℕ, ◌+◌, cond, ◌==◌, Bool, true, false, ◌||◌, List, [], ◌∷◌, ◌++◌, Option, Some, None, if◌then◌else◌}
+use Rattle.std.specs.Prelude.{◌≡◌, refl, ℕ, ◌+◌, cond, ◌==◌, nat_lt, length, Bool, true, false, ◌||◌, List, [], ◌∷◌, ◌++◌, Option, Some, None, if◌then◌else◌}
 use Rattle.std.specs.List.{filter_map, cons_option, list_any, last_or, count_by, sum_by}
 use Rattle.std.specs.Option.{option_or}
+use Rattle.std.proofs.lemmas.Bool.Decides.{nat_tests}
 use Rattle.std.proofs.lemmas.List.Folds.{list_any-append}
 use Rattle.std.proofs.lemmas.List.Sums.{fold-append, sum_by-append}
 use Rattle.std.proofs.lemmas.List.Elements.{filter_map-append}
@@ -15,10 +16,10 @@ use Rattle.sk_msg.specs.declared.state.State.{State}
 use Rattle.sk_law.specs.declared.said.Said.{Said}
 use Rattle.sk_law.specs.Order.{is_hello, is_services_end, is_leave, says_synchronised, says_coordinated, service_in, time_in, state_in, said_of, said_after}
 use Rattle.sk_law.specs.Links.{seen_after, unseen}
-use Rattle.sk_law.specs.Readings.{state_of, state_after, system_after, has_run, is_running_entry, begun_after, open_after, is_begin, next_number, payload, payload_in, is_ready_done, has_completed_ready, step_awaited_after, got, got_from, put, put_to, is_gone, is_gone_entry}
+use Rattle.sk_law.specs.Readings.{state_of, state_after, system_after, has_run, is_running_entry, begun_after, open_after, is_begin, next_number, payload, payload_in, is_ready_done, has_completed_ready, step_awaited_after, got, got_from, put, put_to, is_gone, is_gone_entry, gone_of, gones}
 use Rattle.sk_law.specs.Told.{gather, heard_by, notices_by}
 use Rattle.sk_law.specs.Script.{view_by}
-use Rattle.sk_law.specs.Growing.{GoesByEntries, run_after, completed_after, number_after, got_after, put_after, gone_after}
+use Rattle.sk_law.specs.Growing.{GoesByEntries, run_after, completed_after, number_after, got_after, put_after, gone_after, gones_after}
 
 or_no : (b : Bool) → (b || false) ≡ b
 or_no true = refl
@@ -108,6 +109,45 @@ put_more p ms (Gone q r) = append-nil ms
 put_more p ms (Stray n) = append-nil ms
 put_more p ms (Did s c m) = append-nil ms
 put_more p ms (Fault n) = append-nil ms
+
+kept_reason : (c : Bool) (xs : List ℕ) (reason : ℕ) → xs ++ cons_option (if c then Some reason else None) [] ≡ (if c then xs ++ reason ∷ [] else xs)
+kept_reason true xs reason = refl
+kept_reason false xs reason = append-nil xs
+
+gones_more : (p : ℕ) (xs : List ℕ) (e : Entry) → xs ++ filter_map (gone_of p) (e ∷ []) ≡ gones_after p xs e
+gones_more p xs (Gone q r) = kept_reason (q == p) xs r
+gones_more p xs (Got q m) = append-nil xs
+gones_more p xs (Put q m) = append-nil xs
+gones_more p xs (Hand q k r) = append-nil xs
+gones_more p xs (Entered to) = append-nil xs
+gones_more p xs (Judged x) = append-nil xs
+gones_more p xs (Begin n t) = append-nil xs
+gones_more p xs (Done n) = append-nil xs
+gones_more p xs (End n) = append-nil xs
+gones_more p xs (Ask c v) = append-nil xs
+gones_more p xs (Stray n) = append-nil xs
+gones_more p xs (Did s c m) = append-nil xs
+gones_more p xs (Fault n) = append-nil xs
+
+reasoned : (c gone : Bool) (reason : ℕ) (xs : List ℕ) → gone ≡ nat_lt 0 (length xs) → (c || gone) ≡ nat_lt 0 (length (cons_option (if c then Some reason else None) xs))
+reasoned true gone reason xs h = let r : nat_lt 0 (length (reason ∷ xs)) ≡ true = grind (arith, nat_tests) in sym r
+reasoned false gone reason xs h = h
+
+gone_where : (p : ℕ) (es : List Entry) → is_gone es p ≡ nat_lt 0 (length (gones es p))
+gone_where p [] = refl
+gone_where p (Gone q r ∷ es) = reasoned (q == p) (is_gone es p) r (gones es p) (gone_where p es)
+gone_where p (Got q m ∷ es) = gone_where p es
+gone_where p (Put q m ∷ es) = gone_where p es
+gone_where p (Hand q k r ∷ es) = gone_where p es
+gone_where p (Entered to ∷ es) = gone_where p es
+gone_where p (Judged x ∷ es) = gone_where p es
+gone_where p (Begin n t ∷ es) = gone_where p es
+gone_where p (Done n ∷ es) = gone_where p es
+gone_where p (End n ∷ es) = gone_where p es
+gone_where p (Ask c v ∷ es) = gone_where p es
+gone_where p (Stray n ∷ es) = gone_where p es
+gone_where p (Did s c m ∷ es) = gone_where p es
+gone_where p (Fault n ∷ es) = gone_where p es
 
 number : (n : ℕ) (e : Entry) → (n + cond (is_begin e) 1 0) + 1 ≡ number_after (n + 1) e
 number n (Begin i t) = omega arith
@@ -213,6 +253,8 @@ goes_by_entries = record {
   got_is = λ p es e. filter_map-append (got_from p) es (e ∷ []) ∙ got_more p (got es p) e;
   put_is = λ p es e. filter_map-append (put_to p) es (e ∷ []) ∙ put_more p (put es p) e;
   gone = λ p es e. list_any-append (is_gone_entry p) es (e ∷ []) ∙ gone p (is_gone es p) e;
+  gones_are = λ p es e. filter_map-append (gone_of p) es (e ∷ []) ∙ gones_more p (gones es p) e;
+  gone_is = gone_where;
   seen_is = λ S past e. fold-append (seen_after S past.memory.tools) unseen past.journal (e ∷ []);
   said = λ ms m. said_longer ms m ∙ longer_is (said_of ms) m;
   heard_is = λ es e. gather_add heard_by [] es e;

@@ -1,5 +1,5 @@
 -- How what is said of a journal grows with it.
-use Rattle.std.specs.Prelude.{◌≡◌, ℕ, ◌+◌, ◌==◌, Bool, ◌||◌, List, [], ◌∷◌, ◌++◌, Option, if◌then◌else◌}
+use Rattle.std.specs.Prelude.{◌≡◌, ℕ, ◌+◌, ◌==◌, nat_lt, Bool, ◌||◌, List, [], ◌∷◌, ◌++◌, length, Option, if◌then◌else◌}
 use mathlib.Core.List.{IsPrefix}
 use Rattle.sk_msg.specs.declared.action.Action.{Action}
 use Rattle.sk_msg.specs.declared.command.Command.{Command}
@@ -13,7 +13,7 @@ use Rattle.sk_law.specs.declared.made.Call.{Call}
 use Rattle.sk_law.specs.declared.made.Made.{Made}
 use Rattle.sk_law.specs.declared.setup.Setup.{Setup}
 use Rattle.sk_law.specs.Past.{Past, add}
-use Rattle.sk_law.specs.Readings.{state_of, state_after, system_told, system_after, has_run, last_begun, begun_after, open_step, open_after, next_number, payload, payload_in, has_completed_ready, step_awaited, step_awaited_after, got, put, is_gone}
+use Rattle.sk_law.specs.Readings.{state_of, state_after, system_told, system_after, has_run, last_begun, begun_after, open_step, open_after, next_number, payload, payload_in, has_completed_ready, step_awaited, step_awaited_after, got, put, is_gone, gones}
 use Rattle.sk_law.specs.Order.{said_of, said_after}
 use Rattle.sk_law.specs.Links.{seen, seen_after}
 use Rattle.sk_law.specs.Outcomes.{Outcome}
@@ -55,6 +55,11 @@ abbrev pub gone_after : ℕ → Bool → Entry → Bool
 gone_after p before (Gone q reason) = before || q == p
 gone_after p before _ = before
 
+-- why its link is gone
+abbrev pub gones_after : ℕ → List ℕ → Entry → List ℕ
+gones_after p before (Gone q reason) = if q == p then before ++ reason ∷ [] else before
+gones_after p before _ = before
+
 -- the law: each reading of a journal, and what the app is told of it, is a step from what it was one entry before
 pub record GoesByEntries : Type 0 where
   pub state : (es : List Entry) (e : Entry) → state_of (es ++ e ∷ []) ≡ state_after (state_of es) e
@@ -69,6 +74,9 @@ pub record GoesByEntries : Type 0 where
   pub got_is : (p : ℕ) (es : List Entry) (e : Entry) → got (es ++ e ∷ []) p ≡ got_after p (got es p) e
   pub put_is : (p : ℕ) (es : List Entry) (e : Entry) → put (es ++ e ∷ []) p ≡ put_after p (put es p) e
   pub gone : (p : ℕ) (es : List Entry) (e : Entry) → is_gone (es ++ e ∷ []) p ≡ gone_after p (is_gone es p) e
+  pub gones_are : (p : ℕ) (es : List Entry) (e : Entry) → gones (es ++ e ∷ []) p ≡ gones_after p (gones es p) e
+  -- and a link is gone exactly where there is a reason for it
+  pub gone_is : (p : ℕ) (es : List Entry) → is_gone es p ≡ nat_lt 0 (length (gones es p))
   pub seen_is : (S : Setup) (past : Past) (e : Entry) → seen S (add e past) ≡ seen_after S past.memory.tools (seen S past) e
   pub said : (ms : List Content) (m : Content) → said_of (ms ++ m ∷ []) ≡ said_after (said_of ms) m
   pub heard_is : (es : List Entry) (e : Entry) → heard (es ++ e ∷ []) ≡ heard es ++ heard_by es e

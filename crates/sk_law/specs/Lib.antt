@@ -16,3 +16,10 @@ pub mod Script
 pub mod World
 pub mod Safe
 pub mod Growing
+pub mod Ends
+pub mod Bounded
+pub mod Kept
+pub mod Tied
+pub mod Tallies
+pub mod Questions
+pub mod Coming

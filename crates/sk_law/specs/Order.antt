@@ -18,7 +18,7 @@ use Rattle.sk_law.specs.declared.said.Said.{Said}
 
 -- ## Data messages
 
--- the bytes that a data message carries
+-- the bytes that a data message carries; no other carries any
 abbrev pub carried : Content → List ℕ
 carried (Can head frame) = frame.payload
 carried (Eth head payload) = payload
@@ -29,7 +29,7 @@ carried (Call head call payload) = payload
 carried (Reply head client call payload) = payload
 carried _ = []
 
--- two services are of one kind
+-- the kinds are the same
 abbrev pub is_kind : ServiceKind → ServiceKind → Bool
 is_kind kinds.Can kinds.Can = true
 is_kind kinds.Ethernet kinds.Ethernet = true
@@ -82,7 +82,7 @@ abbrev pub state_in : Content → Option State
 state_in (Status state until) = Some state
 state_in _ = None
 
--- above 0, since 0 bounds nothing
+-- a bound of steps, which 0 is not
 abbrev pub until_in : Content → Option ℕ
 until_in (Status state until) = if until == 0 then None else Some until
 until_in _ = None
@@ -111,7 +111,7 @@ is_coordinated ms = list_any says_coordinated ms
 abbrev pub services_of : List Content → List Service
 services_of ms = filter_map service_in ms
 
--- the step that it announced last
+-- the time of the step that it announced last
 abbrev pub announced_of : List Content → Option ℕ
 announced_of ms = last_or None (filter_map time_in ms)
 
@@ -157,7 +157,7 @@ abbrev pub is_hello_of : Role → Bool → Bool
 is_hello_of Tool tool = tool
 is_hello_of (Participant coordinated synchronised) tool = not tool
 
--- the Hello that comes first: with the name, and with the tool bit exactly of a tool
+-- the Hello that comes first: with the name, and with the tool's role exactly from a tool
 abbrev pub opens : Bool → List ℕ → Content → Bool
 opens tool name (Hello given role address) = bytes_eq given name && is_hello_of role tool
 opens tool name _ = false
@@ -187,7 +187,8 @@ abbrev pub is_sendable : Said → ServiceKind → Head → Bool
 is_sendable s kind head =
     has_kind kind (slice_get s.services head.service) && (head.mark == 0 || is_at s.announced head.stamp)
 
--- of a peer, behind its Hello: services numbered from 0, ServicesEnd, then the rest; Leave behind the Status of Shutdown
+-- of a peer, behind its Hello: services numbered from 0, ServicesEnd, then the rest. NextStep comes from a synchronised one
+-- alone, above the last one; Leave where the last Status is Shutdown; Hello, Workflow and Refuse never
 abbrev pub follows : Said → Content → Bool
 follows s (Hello name role address) = false
 follows s (ServiceAdd service) = not s.ended && service.id == length s.services

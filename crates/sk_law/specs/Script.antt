@@ -57,9 +57,9 @@ views es = gather view_by [] es
 -- a step, as a report shows it
 pub record Step : Type 0 where
   pub view : View
-  -- what was sent in it, in order
+  -- the data messages that were sent while it was open, in order
   pub sends : List Content
-  -- a Stop was accepted in it
+  -- a Stop was accepted while it was open
   pub stops : Bool
 
 -- the mark is this number
@@ -67,7 +67,7 @@ abbrev pub has_mark : ℕ → Option Head → Bool
 has_mark n None = false
 has_mark n (Some head) = head.mark == n
 
--- what a Did says that was sent in this step
+-- the data message that a Did says was sent in this step
 abbrev pub sent_in : ℕ → Entry → Option Content
 sent_in n (Did service code (Some m)) = if has_mark n (head_of m) then Some m else None
 sent_in n _ = None
@@ -116,14 +116,14 @@ abbrev pub is_message : Call → Bool
 is_message (calls.Message p place r m) = true
 is_message _ = false
 
--- the calls of steps ask for what the script says, one after another
+-- there are as many calls of steps as steps, and one after another they ask for what the script says
 abbrev pub PlaySteps : Script → List View → List View → List Made → Type 0
 PlaySteps script before [] [] = Unit {0}
 PlaySteps script before (now ∷ later) (one ∷ more) =
     AsksFor one (script.step before now) × PlaySteps script (before ++ now ∷ []) later more
 PlaySteps script before _ _ = ⊥
 
--- each of these calls asks for the same
+-- each of these calls asks for these
 abbrev pub AllAskFor : List Action → List Made → Type 0
 AllAskFor all made = AllByRecursion (λ one. AsksFor one all) made
 
@@ -132,7 +132,7 @@ abbrev pub has_failed : Entry → Bool
 has_failed (Entered state) = is_state Error state || is_state Aborting state
 has_failed _ = false
 
--- behind one of these
+-- a Stray stands behind one of these
 abbrev pub is_fair_stray : List Entry → Entry → Bool
 is_fair_stray before (Stray n) = list_any has_failed before
 is_fair_stray before _ = true

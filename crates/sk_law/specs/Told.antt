@@ -23,20 +23,20 @@ gather gives before (e ∷ es) = gives before e ++ gather gives (before ++ e ∷
 abbrev pub message_at : List Entry → ℕ → ℕ → Option Content
 message_at es p place = slice_get (got es p) (place - 1)
 
--- what the app hears by an entry
+-- what the app hears by an entry: by a Hand the message at its place, where one was got, and by a Did its code
 abbrev pub heard_by : List Entry → Entry → List Heard
 heard_by before (Hand p place service) =
     option_to_list (option_map (λ m. hearings.Message p place service m) (message_at before p place))
 heard_by before (Did service code message) = hearings.Answer service code ∷ []
 heard_by before _ = []
 
--- each Hand with the message at its place, and each Did
+-- each Hand with the message at its place, and each Did with its code
 abbrev pub heard : List Entry → List Heard
 heard es = gather heard_by [] es
 
 -- ## Notices
 
--- before the app is told a state: that it stops, shuts down or is aborted
+-- what the app is told before a state: Stop before Stopped, and before Shutdown what it comes from, Shutdown or Abort
 abbrev pub notice_before : State → State → List Notice
 notice_before last Stopped = told.Stop ∷ []
 notice_before ShuttingDown Shutdown = told.Shutdown ∷ []
@@ -48,6 +48,6 @@ abbrev pub notices_by : State → Entry → List Notice
 notices_by last (Entered state) = notice_before last state ++ told.State state ∷ []
 notices_by last _ = []
 
--- each state, and what comes before it
+-- each state, and what comes before it. The first, that of making, is told to nobody: the app is told the others
 abbrev pub notices : List Entry → List Notice
 notices es = gather (λ before e. notices_by (state_of before) e) [] es

@@ -30,7 +30,7 @@ abbrev pub are_sorted : List (List ℕ) → Bool
 are_sorted [] = true
 are_sorted (x ∷ xs) = list_all (is_before x) xs && are_sorted xs
 
--- a lawful world: the participants of these names, in the order of bytes, each of a setup that it may be made with; each
+-- a lawful world: the participants of these names, in the order of bytes, each of a setup as `IsSetup` asks; each
 -- journal is lawful with the calls of its app, and what one got from another is the beginning of what that one put to it
 pub record IsWorld (names : List (List ℕ)) (members : List Member) : Type 0 where
   pub sorted : IsTrue (are_sorted names)

@@ -14,7 +14,7 @@ use std::marker::Model;
 /// What an own service is at.
 #[derive(Debug, Drop)]
 pub enum ServiceState {
-    /// A CAN controller, with its state.
+    /// A CAN controller, with its state and its baud rate.
     Can(CanController),
     /// An Ethernet controller: whether it is active.
     Ethernet(EthController),
@@ -90,6 +90,6 @@ pub struct Memory {
 pub struct Begun {
     /// Its number, from 1.
     pub number: u64,
-    /// Where it began, in ns of virtual time.
+    /// Its time, in ns of virtual time.
     pub time: SimTime,
 }

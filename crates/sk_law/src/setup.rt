@@ -9,7 +9,8 @@ use std::alloc::Global;
 
 /// What a participant is made with.
 ///
-/// `IsSetup` of the definitions says which of these a participant may be made with.
+/// `IsSetup` of the definitions says what the laws ask of one. The limits of its services and of
+/// the duration are beside it.
 #[derive(Debug, Drop)]
 pub struct Setup {
     /// Its own place among the names.

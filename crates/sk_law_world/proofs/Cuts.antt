@@ -22,7 +22,7 @@ use Rattle.sk_law.specs.Rows.{Step, row}
 use Rattle.sk_law.specs.Blocks.{called, callback, take_step, making, introduction, enter, judge_limits, with_completed}
 use Rattle.sk_law.specs.Safe.{hands}
 use Rattle.sk_law.specs.Lawful.{Lawful, Happens, Leads, here, further, note_asked, starts, goes_on, gets, loses, completes, asks, adds, moves, readies, begins, counts, gives_up}
-use Rattle.sk_law_world.proofs.Built.{are_messages}
+use Rattle.sk_law_world.proofs.BlocksBuilt.{are_messages}
 use Rattle.sk_law_world.proofs.Meetings.{last_or_before}
 use Rattle.sk_law_world.proofs.Growth as growth
 use Rattle.sk_law_world.proofs.Growth.{Adds, Calm, both}

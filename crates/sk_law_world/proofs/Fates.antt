@@ -23,7 +23,8 @@ use Rattle.sk_law.specs.Receivers.{receivers}
 use Rattle.sk_law.specs.Blocks.{called, callback, take_step, making, get, heed, lose, enter, enter_if, judge_limits, with_completed}
 use Rattle.sk_law_world.specs.Meets.{Meets, EachMeets}
 use Rattle.sk_law.specs.Lawful.{is_loss, Lawful, Happens, note_asked, starts, goes_on, gets, loses, completes, asks, adds, moves, readies, begins, counts, gives_up}
-use Rattle.sk_law_world.proofs.Built.{IsMessage, are_messages, state_of-add, state-enter}
+use Rattle.sk_law_world.proofs.Built.{state_of-add, state-enter}
+use Rattle.sk_law_world.proofs.BlocksBuilt.{IsMessage, are_messages}
 use Rattle.sk_law_world.proofs.Meetings.{lawful_meets}
 use Rattle.sk_law_world.proofs.WalkLaws.{making_state}
 use Rattle.sk_law_world.proofs.Floors.{along}

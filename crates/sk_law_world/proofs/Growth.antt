@@ -30,7 +30,7 @@ use Rattle.sk_law.specs.Links.{reached, told, system, is_peer, comes_in_order}
 use Rattle.sk_law.specs.Receivers.{note}
 use Rattle.sk_law.specs.Outcomes.{Outcome, outcome}
 use Rattle.sk_law.specs.Blocks.{judge_system, announce, enter_only, enter_until, enter, enter_if, asked, ask, until_of, with_pause, pause_for, count_down, put_some, did, answer, answers, fault, called, callback, callbacks, may_end, end_open, end_step, end_blocking, completes_ready, completes_step, complete, lose, heed, get, tool_number, with_tool, greet, add_tool, judge_limits}
-use Rattle.sk_law_world.proofs.Built.{IsMessage}
+use Rattle.sk_law_world.proofs.BlocksBuilt.{IsMessage}
 
 pub record Adds (kinds : Entry → Bool) (past now : Past) : Type 0 where
   pub new : List Entry

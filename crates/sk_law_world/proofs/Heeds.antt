@@ -17,7 +17,7 @@ use Rattle.sk_law.specs.Readings.{got, got_from, is_gone, is_gone_entry}
 use Rattle.sk_law.specs.Links.{may_say_as, Seen, unseen, is_awaited, shows_running, is_peer, is_tool, is_here, is_open, is_in_order, comes_in_order, take_in, taken_of, of_peer, seen_after, seen, taken, from}
 use Rattle.sk_law.specs.Blocks.{get, heed, lose, making}
 use Rattle.sk_law.specs.Lawful.{Lawful, starts, goes_on}
-use Rattle.sk_law_world.proofs.Built.{IsMessage}
+use Rattle.sk_law_world.proofs.BlocksBuilt.{IsMessage}
 use Rattle.sk_law_world.proofs.Lists.{get_left}
 use Rattle.sk_law_world.proofs.Growth as growth
 use Rattle.sk_law_world.proofs.Growth.{Adds, Calm}

@@ -1,11 +1,8 @@
 mod StateLaws
 mod EdgeLaws
-mod Computes
-mod Replay
-mod Lawfulness
-mod Journeys
 mod Stamps
 mod Built
+mod BlocksBuilt
 mod RowLaws
 mod Meetings
 mod Walks
@@ -13,11 +10,11 @@ mod Growth
 mod Onces
 mod WalkLaws
 mod Floors
-mod Wrongs
 mod Lists
 mod Cuts
 mod Fates
 mod Refusals
+mod Sents
 mod Heeds
 mod HandOrders
 mod Worlds
@@ -29,7 +26,4 @@ mod Addresses
 mod Talks
 mod Orders
 mod Inorders
-mod Living
-mod Unsafes
 mod Announcings
-mod Circles

@@ -15,7 +15,8 @@ use Rattle.sk_law.specs.Blocks.{with_completed}
 use Rattle.sk_law.specs.Lawful.{Lawful, Happens, note_asked, starts, goes_on, gets, loses, completes, asks, adds, moves, readies, begins, counts, gives_up}
 use Rattle.sk_law_world.proofs.RowLaws.{row-edge, row-step, row-alive}
 use Rattle.sk_law_world.proofs.Built as built
-use Rattle.sk_law_world.proofs.Built.{Built, MayCall, are_messages, called_alive, built_making, built_get, built_lose, built_complete, built_ask, built_add_tool, built_enter_until, built_callback, built_take_step, built_count_down, built_judge_limits}
+use Rattle.sk_law_world.proofs.Built.{Built, built_enter_until}
+use Rattle.sk_law_world.proofs.BlocksBuilt.{MayCall, are_messages, called_alive, built_making, built_get, built_lose, built_complete, built_ask, built_add_tool, built_callback, built_take_step, built_count_down, built_judge_limits}
 
 pub built_happens : (S : Setup) (past : Past) (made : List Made) (now : Past) → Happens S past made now → Built S past → Built S now
 built_happens S past made now (gets p m made' linked are filled) b =
@@ -25,7 +26,7 @@ built_happens S past made now (loses p reason linked loss) b = built_lose p reas
 built_happens S past made now (completes number) b = built_complete number (with_completed number past) (built.remembers past (with_completed number past).memory (built.all_of past.memory.tools) b)
 built_happens S past made now (asks command) b = built_ask command (note_asked past) (built.remembers past (note_asked past).memory (built.all_of past.memory.tools) b)
 built_happens S past made now (adds name few) b = built_add_tool name past b
-built_happens S past made now (moves to e) b = built_enter_until to 0 past (record { edge = row-edge S past to e; by_row = λ row. e }) b
+built_happens S past made now (moves to e) b = built_enter_until to 0 past (record { edge = row-edge S past to e; by_row = λ row. e; cause = inr (inl e) }) b
 built_happens S past made now (readies one e call filled) b = built_callback past one (row-alive S past Ready e) (subst (MayCall S past) (sym call) tt) b
 built_happens S past made now (begins one e call filled) b =
     built_take_step one past (row-alive S past Step e) (subst (MayCall S past) (sym call) (record { running = (row-step S past e).0; may = (row-step S past e).1; number = refl; time = refl })) b

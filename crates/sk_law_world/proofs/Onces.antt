@@ -26,7 +26,7 @@ use Rattle.sk_law_world.specs.Once.{IsHanded, HandedOnce}
 use Rattle.sk_law.specs.Services.{new_states}
 use Rattle.sk_law.specs.Blocks.{called, callback, callbacks, heed, get, lose, enter, making, introduction, judge_limits, take_step, with_completed}
 use Rattle.sk_law.specs.Lawful.{Lawful, Happens, Leads, here, further, note_asked, starts, goes_on, gets, loses, completes, asks, adds, moves, readies, begins, counts, gives_up}
-use Rattle.sk_law_world.proofs.Built.{IsMessage, are_messages}
+use Rattle.sk_law_world.proofs.BlocksBuilt.{IsMessage, are_messages}
 use Rattle.sk_law_world.proofs.Meetings.{last_or_before}
 use Rattle.sk_law_world.proofs.Growth as growth
 use Rattle.sk_law_world.proofs.Growth.{Adds, Calm, both}

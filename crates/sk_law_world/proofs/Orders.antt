@@ -37,7 +37,8 @@ use Rattle.sk_law.specs.Setups.{IsSetup}
 use Rattle.sk_law_world.specs.Heard.{PutsAreInOrder}
 use Rattle.sk_law_world.proofs.RowLaws.{row-edge, row-step, row-alive}
 use Rattle.sk_law_world.proofs.Built as built
-use Rattle.sk_law_world.proofs.Built.{Built, IsAlive, MayCall, IsMessage, are_messages, called_alive, alive_still, asked_error, asked_aborting, state_still, state_of-add, last_begun-add, open_step-add, has_run-add, unbegun, opened_is_last, built_callback, built_making}
+use Rattle.sk_law_world.proofs.Built.{Built, asked_error, asked_aborting, state_still, state_of-add, last_begun-add, open_step-add, has_run-add, unbegun, opened_is_last}
+use Rattle.sk_law_world.proofs.BlocksBuilt.{IsAlive, MayCall, IsMessage, are_messages, called_alive, alive_still, built_callback}
 use Rattle.sk_law_world.proofs.Meetings.{lawful_built, built_happens}
 use Rattle.sk_law.specs.declared.said.Said.{Said}
 use Rattle.sk_law_world.proofs.Saids.{said_add, IsOrderly, Runs, orderly_add, orderly_run}
@@ -245,7 +246,7 @@ module _ (S : Setup) (q : ℕ) (peer : is_peer S q ≡ true) (sized : (size : �
   spoken_happens past made now (completes number) b h = spoken_complete number (with_completed number past) (built.remembers past (with_completed number past).memory (built.all_of past.memory.tools) b) (spoken_memory past (with_completed number past).memory refl h)
   spoken_happens past made now (asks command) b h = spoken_ask S q peer sized command (note_asked past) (built.remembers past (note_asked past).memory (built.all_of past.memory.tools) b) (spoken_memory past (note_asked past).memory refl h)
   spoken_happens past made now (adds name few) b h = spoken_add_tool name past h
-  spoken_happens past made now (moves to e) b h = spoken_enter_until S q peer sized to 0 past (record { edge = row-edge S past to e; by_row = λ row. e }) b h
+  spoken_happens past made now (moves to e) b h = spoken_enter_until S q peer sized to 0 past (record { edge = row-edge S past to e; by_row = λ row. e; cause = inr (inl e) }) b h
   spoken_happens past made now (readies one e call filled) b h = spoken_callback S q peer sized past one (row-alive S past Ready e) (subst (MayCall S past) (sym call) tt) b h
   spoken_happens past made now (begins one e call filled) b h =
       spoken_take_step one past (row-alive S past Step e) (subst (MayCall S past) (sym call) (record { running = (row-step S past e).0; may = (row-step S past e).1; number = refl; time = refl })) b h

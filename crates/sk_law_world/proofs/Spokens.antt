@@ -25,7 +25,8 @@ use Rattle.sk_law.specs.Readings.{system_told, put, put_to, state_of, is_gone, i
 use Rattle.sk_law.specs.Order.{is_above, said_of, said_after}
 use Rattle.sk_law.specs.Links.{own_name, is_peer, reached, told, system}
 use Rattle.sk_law.specs.Blocks.{judge_system, announce, enter_only}
-use Rattle.sk_law_world.proofs.Built.{SameMoment, IsAlive, last_begun-add, open_step-add, state_of-add, has_run-add, unbegun}
+use Rattle.sk_law_world.proofs.Built.{SameMoment, last_begun-add, open_step-add, state_of-add, has_run-add, unbegun}
+use Rattle.sk_law_world.proofs.BlocksBuilt.{IsAlive}
 use Rattle.sk_law.specs.declared.said.Said.{Said}
 use Rattle.sk_law_world.proofs.Saids.{fits, IsOrderly, Runs, orderly_run}
 use Rattle.sk_law_world.proofs.Tellings.{unless, IsSilent, silent_puts, puts_all, PutsTo, puts_both, puts_add, puts_system, puts_each, put_reached, put_told, moment, then_moment, moment_puts, IsPlain, moment_add, moment_system, or_no}

@@ -41,7 +41,8 @@ use Rattle.sk_law.specs.Rows.{may_begin}
 use Rattle.sk_law_world.specs.Meets.{is_by_row, Meets, MayBegin, MayEnter}
 use Rattle.sk_law.specs.Blocks.{announce, enter_only, enter_until, enter, enter_if, asked, ask, until_of, with_pause, pause_for, count_down, put_some, did, answer, answers, fault, called, callback, callbacks}
 use Rattle.sk_law_world.proofs.Built as built
-use Rattle.sk_law_world.proofs.Built.{Built, SameMoment, IsAlive, IsAsked, MayCall, IsMessage, may_call, asked_error, asked_aborting, asked_by, edge_by, led_alive, alive_enter, alive_ask, alive_answer, alive_answers, alive_called, alive_callback, alive_still, state_still, state_of-add, last_begun-add, open_step-add, has_run-add, ran, unbegun, closed_unbegun, opened_is_last, built_enter_until, built_enter_if, built_ask, built_answer, built_answers, built_called, built_callback, built_fault}
+use Rattle.sk_law_world.proofs.Built.{Built, SameMoment, IsAsked, asked_error, asked_aborting, state_still, state_of-add, last_begun-add, open_step-add, has_run-add, ran, unbegun, closed_unbegun, opened_is_last, built_enter_until, built_enter_if}
+use Rattle.sk_law_world.proofs.BlocksBuilt.{asked_for, IsAlive, MayCall, IsMessage, may_call, asked_by, edge_by, led_alive, alive_enter, alive_answer, alive_called, alive_callback, built_answer, built_answers, built_called, built_callback}
 use Rattle.sk_law_world.proofs.Stamps.{IsStampedData, IsStamped, outcome_of_is}
 use Rattle.sk_law_world.proofs.Floors.{closed_at}
 use Rattle.sk_law.specs.declared.said.Said.{Said}
@@ -280,7 +281,7 @@ module _ (S : Setup) (q : ℕ) (peer : is_peer S q ≡ true) (sized : (size : �
   spoken_enter_if to past free b h = on (has_edge (state_of past.journal) to) refl
     where
       on : (edge : Bool) → has_edge (state_of past.journal) to ≡ edge → Spoken S q (if edge then enter S to past else past)
-      on true e = spoken_enter_until to 0 past (record { edge = e; by_row = λ row. let no_row = free (state_of past.journal) e in absurd cc }) b h
+      on true e = spoken_enter_until to 0 past (record { edge = e; by_row = λ row. let no_row = free.0 (state_of past.journal) e in absurd cc; cause = inl free.1 }) b h
       on false e = h
 
   -- ## Commands
@@ -302,6 +303,7 @@ module _ (S : Setup) (q : ℕ) (peer : is_peer S q ≡ true) (sized : (size : �
       may = record {
         edge = ap (λ s. has_edge s to) same ∙ edge_by (state_of past.journal) command to e;
         by_row = λ row. let no_row = sym row ∙ ap (λ s. is_by_row s to) same ∙ asked_by (state_of past.journal) command to e in absurd cc;
+        cause = inr (inr (asked_for command past to e));
       }
 
       bm : Built S mid

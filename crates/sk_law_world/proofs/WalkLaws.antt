@@ -15,7 +15,8 @@ use Rattle.sk_law.specs.Services.{new_states}
 use Rattle.sk_law_world.specs.Once.{StatesWalk}
 use Rattle.sk_law.specs.Blocks.{making, introduction, judge_limits}
 use Rattle.sk_law.specs.Lawful.{Lawful, starts, goes_on}
-use Rattle.sk_law_world.proofs.Built.{built_making, state-enter}
+use Rattle.sk_law_world.proofs.Built.{state-enter}
+use Rattle.sk_law_world.proofs.BlocksBuilt.{built_making}
 use Rattle.sk_law_world.proofs.Meetings.{lawful_built}
 use Rattle.sk_law_world.proofs.Growth as growth
 use Rattle.sk_law_world.proofs.Growth.{Adds, Calm}

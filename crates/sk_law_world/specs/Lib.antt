@@ -5,9 +5,4 @@ pub mod Barrier
 pub mod Safety
 pub mod Heard
 pub mod Refused
-pub mod Examples
-pub mod Journals
-pub mod Wrong
-pub mod Unsafe
-pub mod Living
-pub mod Acausal
+pub mod Sent

@@ -1,6 +1,6 @@
 -- The rules of Got, Put, State, System, Begin, Done, End, Ask and Stray, judged on what stands before; Hand, Gone, Did and
 -- Fault have none here. And a journal each of whose entries meets its rule.
-use Rattle.std.specs.Prelude.{◌≡◌, ◌⊎◌, ℕ, Bool, true, false, not, ◌&&◌, IsTrue, IfSome, IsSome, List, [], ◌∷◌, ◌++◌, Some, None, unwrap_or}
+use Rattle.std.specs.Prelude.{◌≡◌, ◌⊎◌, ℕ, Bool, true, false, not, ◌&&◌, ◌||◌, IsTrue, IfSome, IsSome, List, [], ◌∷◌, ◌++◌, Some, None, unwrap_or}
 use Rattle.std.specs.List.{list_any}
 use Rattle.sk_msg.specs.declared.command.Command.{Command}
 use Rattle.sk_msg.specs.declared.command.Command.TheVariants.{Pause, Continue, Stop, ReportError, Abort}
@@ -9,7 +9,7 @@ use Rattle.sk_msg.specs.declared.command.Verdict.TheVariants.{Accepted, Refused}
 use Rattle.sk_msg.specs.declared.content.Content.{Content}
 use Rattle.sk_msg.specs.declared.content.Content.TheVariants.{Hello, NextStep, Status, Leave}
 use Rattle.sk_msg.specs.declared.state.State.{State}
-use Rattle.sk_msg.specs.declared.state.State.TheVariants.{Invalid, Running, Shutdown}
+use Rattle.sk_msg.specs.declared.state.State.TheVariants.{Invalid, ServicesCreated, Running, Error, Shutdown, Aborting}
 use Rattle.sk_msg.specs.Edges.{has_edge, has_edge_of, led_to}
 use Rattle.sk_msg.specs.States.{is_state}
 use Rattle.sk_msg.specs.declared.entry.Entry.{Entry}
@@ -43,10 +43,23 @@ unfoldable pub is_by_row : State → State → Bool
 is_by_row from to =
     not (is_state Invalid from) && not (list_any (λ command. has_edge_of command from to) (Pause ∷ Continue ∷ Stop ∷ ReportError ∷ Abort ∷ []))
 
--- along an edge; along one that no command asks for only where that row comes next
+-- a participant comes to these in other ways too: by being made, by a fault, a lost peer or a message
+abbrev pub comes_besides : State → Bool
+comes_besides to = is_state ServicesCreated to || (is_state Error to || is_state Aborting to)
+
+-- right behind an accepted Ask, of a command whose edge leads to the state
+pub record IsAskedFor (past : Past) (to : State) : Type 0 where
+  pub command : Command
+  pub before : List Entry
+  pub is : past.journal ≡ before ++ Ask command Accepted ∷ []
+  pub edge : IsTrue (has_edge_of command (state_of past.journal) to)
+
+-- along an edge; along one that no command asks for only where that row comes next; but for those states only there, or by a
+-- command
 pub record MayEnter (S : Setup) (past : Past) (to : State) : Type 0 where
   pub edge : IsTrue (has_edge (state_of past.journal) to)
   pub by_row : is_by_row (state_of past.journal) to ≡ true → row S past ≡ Some (Move to)
+  pub cause : IsTrue (comes_besides to) ⊎ ((row S past ≡ Some (Move to)) ⊎ IsAskedFor past to)
 
 -- in Running, where a step may begin, with its number and its time
 pub record MayBegin (S : Setup) (past : Past) (n t : ℕ) : Type 0 where

@@ -7,8 +7,7 @@
 mod laws;
 
 pub use laws::{
-    a_world_lives, all_ready_before_running, announcements, entries_meet_their_rules,
-    examples_are_lawful, gone_has_a_cause, messages_are_handed_once, no_world_runs_in_a_circle,
-    none_out_of_order, puts_are_in_order, short_ones_are_lawful, states_walk,
-    unsafe_ones_are_refused, world_is_safe, wrong_ones_are_not,
+    all_ready_before_running, announcements, entries_meet_their_rules, gone_has_a_cause,
+    messages_are_handed_once, none_out_of_order, puts_are_in_order, states_walk,
+    what_is_done_is_sent, world_is_safe,
 };

@@ -286,6 +286,3 @@ fn is_wakeup(status: LinStatus) -> bool
         LinStatus::RxOk | LinStatus::RxError | LinStatus::RxNoResponse => false,
     }
 }
-
-#[cfg(test)]
-mod tests;

@@ -32,8 +32,8 @@ pub enum Entry {
     System(State),
     /// The step of this number, from 1, began at this time.
     Begin(u64, SimTime),
-    /// The work of the step of this number is completed; of 0 that of the ready handler. It stands
-    /// only where the work was handed out.
+    /// A completion came that was waited for: of the open asynchronous step of this number, or, with
+    /// 0, of the asynchronous ready handler.
     Done(u64),
     /// The step of this number ended.
     End(u64),
@@ -42,15 +42,14 @@ pub enum Entry {
     /// The link to this peer is gone. The reason is 5 where the link ended, 6 where it failed, 7 on
     /// bytes that are no message, 8 on a message out of order, 9 on more than 2^32 bytes.
     Gone(u32, u8),
-    /// A completion came whose number, which this is, isn't the open work's. Nothing else came of
-    /// it.
+    /// A completion of this number came that nothing waited for. It has no other effect.
     Stray(u64),
-    /// An action of this own service was carried out, with what it sent, if it sent anything. The
-    /// code is 0 where it is done, 1 where its state or role refused it, 2 on a bad frame, 3 where
-    /// no server is reachable, 4 where the call isn't open.
+    /// An action on this own service was answered by this code, with what it sent, if it sent
+    /// anything. The code is 0 where it is done, 1 where its state or role refused it, 2 on a bad
+    /// frame, 3 where no server is reachable, 4 where the call isn't open.
     Did(u32, u8, Option<Sent>),
-    /// A limit was passed: 2 where a callback tried a 257th action, 3 where the journal has 500,000
-    /// entries, 4 where it has 33,554,432 bytes of payloads that were got or put.
+    /// A limit was reached: 2 where a callback tried a 257th action, 3 where the journal has 500,000
+    /// entries or more, 4 where it has 33,554,432 bytes or more of payloads that were got or put.
     Fault(u8),
 }
 

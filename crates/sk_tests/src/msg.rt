@@ -1,7 +1,8 @@
-use sk_base::{Bytes, Name, SimTime, Text};
+use crate::made::{LabelParts, spec_of};
+use sk_base::{Bytes, Name, SimTime};
 use sk_msg::rules::is_mark;
 use sk_msg::{
-    Action, Content, Entry, Head, Label, LabelKind, Message, Names, Sent, Spec, SpecFault, State,
+    Action, Content, Entry, Head, LabelKind, Message, Names, Sent, Spec, SpecFault, State,
 };
 use std::alloc::Global;
 use std::mem::size_of;
@@ -11,36 +12,24 @@ use std::test::Fail;
 /// So a journal of 500,000 entries takes 32 MB.
 const _: () = prove!(size_of::<Entry>() <= 64);
 
-fn label(alloc: Global, key: &str) -> Result<Label, Fail> {
-    Ok(Label {
-        key: Name::new(alloc, key)?,
-        value: Text::new(alloc, "v")?,
-        kind: LabelKind::Mandatory,
-    })
-}
-
-/// A specification with labels of these keys.
-fn spec_of(alloc: Global, keys: &[&str]) -> Result<Result<Spec, SpecFault>, Fail> {
-    let mut labels = Vec::new(alloc);
-    for key in keys {
-        labels.push(label(alloc, key)?)?;
-    }
-    let topic = Name::new(alloc, "topic")?;
-    let media = Text::new(alloc, "")?;
-    Ok(Spec::new(topic, media, labels))
-}
-
-fn refusal_of(alloc: Global, keys: &[&str]) -> Result<Option<SpecFault>, Fail> {
-    Ok(spec_of(alloc, keys)?.err())
+/// A mandatory label of this key.
+fn keyed(key: &str) -> LabelParts<'_> {
+    (LabelKind::Mandatory, key, "v")
 }
 
 #[test]
 fn refused_labels(rt: HostRuntime) -> Result<(), Fail> {
-    let alloc = rt.alloc();
-    assert!(rt; refusal_of(alloc, &["k", "k"])? == Some(SpecFault::DoubleKey(1)));
-    assert!(rt; refusal_of(alloc, &["k", "l", "m", "l", "k"])? == Some(SpecFault::DoubleKey(3)));
-    assert!(rt; refusal_of(alloc, &["k"; 17])? == Some(SpecFault::TooMany(17)));
-    assert!(rt; refusal_of(alloc, &[])? == None);
+    let (k, l, m) = (keyed("k"), keyed("l"), keyed("m"));
+    let table: [(&[LabelParts], Option<SpecFault>); 4] = [
+        (&[k, k], Some(SpecFault::DoubleKey(1))),
+        (&[k, l, m, l, k], Some(SpecFault::DoubleKey(3))),
+        (&[k; 17], Some(SpecFault::TooMany(17))),
+        (&[], None),
+    ];
+    for (labels, refusal) in table {
+        let made = spec_of(rt.alloc(), "topic", "", labels)?;
+        assert!(rt; made.err() == refusal);
+    }
     Ok(())
 }
 
@@ -57,7 +46,7 @@ fn expect_second(rt: &impl Abort, spec: &Spec) -> Result<(), Fail> {
 
 #[test]
 fn a_specification_and_its_copy(rt: HostRuntime) -> Result<(), Fail> {
-    let spec = spec_of(rt.alloc(), &["k", "l"])??;
+    let spec = spec_of(rt.alloc(), "topic", "", &[keyed("k"), keyed("l")])??;
     expect_second(&rt, &spec)?;
     expect_second(&rt, &spec.copy(rt.alloc())?)
 }

@@ -1,0 +1,5 @@
+use Rattle.sk_law.proofs.Ties.{tied-other}
+use Rattle.sk_law.proofs.journal.Journal.add_plain.Goals as goal
+
+pub invariant_of-self-2 : goal.invariant_of-self-2
+invariant_of-self-2 c = tied-other c.journals_go_by_entries.ensures c.args.entry _ c.requires c.self.invariant c.in_ok-push.ensures.items

@@ -1,0 +1,11 @@
+pub mod Bare
+pub mod Calls
+pub mod Known
+pub mod Lists
+pub mod Making
+pub mod Notified
+pub mod Peers
+pub mod Purposes
+pub mod Turning
+pub mod Verdicts
+pub mod Went
