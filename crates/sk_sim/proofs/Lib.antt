@@ -1,0 +1,17 @@
+pub mod Counting
+pub mod Lists
+pub mod Untouched
+pub mod Going
+pub mod Outgoing
+pub mod Incoming
+pub mod Turning
+pub mod Starting
+pub mod Seeing
+pub mod Working
+pub mod Leaving
+pub mod Members
+pub mod Worlds
+pub mod Finishing
+pub mod Answered
+pub mod Itself
+pub mod Ending

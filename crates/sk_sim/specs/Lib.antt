@@ -1,0 +1,9 @@
+pub mod Wiring
+pub mod Cards
+pub mod Parts
+pub mod Answers
+pub mod Views
+pub mod Sees
+pub mod Work
+pub mod Rounds
+pub mod Runs

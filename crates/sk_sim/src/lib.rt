@@ -1,0 +1,31 @@
+//! A run of several participants in one process.
+//!
+//! A [`Seat`] is a participant with its app and its ends of the rings of a mesh. [`turn_rounds`] has
+//! each seat take one turn after another until all are finished or none has anything to do; it always
+//! comes to an end by itself, without a clock, a budget or a handle.
+//!
+//! ```text
+//! let ends = mesh(alloc, 2, 64)?;                     // a ring for each ordered pair
+//! let seat = Seat::new(alloc, setup, app, own_ends)?; // one for each end, in number order
+//! let (seats, finished) = turn_rounds(seats)?;        // the same seats, each where it came to
+//! let journal = seat.close();
+//! ```
+//!
+//! The journals of the answered seats are a lawful world, and so a safe one: whoever begins a step
+//! was handed before, once and in order, what the others sent in earlier steps. Where the answer is
+//! false all stand still: each message that was put was got, and nothing follows by itself.
+//!
+//! A round costs what it moves and adds. A seat that has nothing to do looks at its rings and at its
+//! peers a few times, and at no journal.
+#![tactic(auto)]
+
+mod looks;
+mod pushing;
+mod rounds;
+mod seat;
+mod taking;
+mod turns;
+mod wired;
+
+pub use rounds::turn_rounds;
+pub use seat::Seat;
