@@ -15,3 +15,6 @@ pub mod Finishing
 pub mod Answered
 pub mod Itself
 pub mod Ending
+pub mod Following
+pub mod Seating
+pub mod Simulating

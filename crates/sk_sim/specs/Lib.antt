@@ -7,3 +7,6 @@ pub mod Sees
 pub mod Work
 pub mod Rounds
 pub mod Runs
+pub mod Calling
+pub mod Scripts
+pub mod Simulations

@@ -22,10 +22,14 @@
 mod looks;
 mod pushing;
 mod rounds;
+mod scripted;
 mod seat;
+mod simulation;
 mod taking;
 mod turns;
 mod wired;
 
 pub use rounds::turn_rounds;
+pub use scripted::Scripted;
 pub use seat::Seat;
+pub use simulation::{Finished, SimFault, run_rounds, seats};

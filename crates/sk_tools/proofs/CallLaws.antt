@@ -1,31 +1,71 @@
 -- The calls of the commands on files, by their jobs.
-use Rattle.std.proofs.Common.{◌≡◌, inl, inr, ℕ, List, Option, option_map, Some, None, refl, ap, subst, arith}
+use Rattle.std.proofs.Common.{◌≡◌, inl, inr, ℕ, true, false, ◌&&◌, List, [], ◌∷◌, codes, option_map, Some, None, refl, ap, subst, arith, ◌∙◌, if◌then◌else◌}
+use Rattle.std.specs.Option.{option_or}
+use Rattle.std.specs.Str.{bytes_eq}
+use Rattle.std.proofs.lemmas.Slice.Eq.{bytes_eq-Decides}
+use Rattle.clap.specs.Words.{App, Text}
+use Rattle.sk_tools.specs.Words.{file_in, file_to_check, file_to_simulate, check_app, simulate_app, is_command, takes_words, rows_read, value_of}
 use Rattle.sk_base.specs.Statuses.{status_number}
 use Rattle.sk_tools.specs.Usage.{IsRefusalOf, ends_refused}
-use Rattle.sk_tools.specs.Jobs.{Job, Check, offline_job}
+use Rattle.sk_tools.specs.Jobs.{Job, Check, Simulate, offline_job}
 use Rattle.sk_tools.specs.Seen.{FilesSeen, SinkSeen}
 use Rattle.sk_tools.specs.OfflineCall.{Does, IsOfflineCall}
 use Rattle.sk_tools.specs.declared.words.Refused.{Refused}
 use Rattle.sk_tools.specs.declared.words.Refused.TheVariants as refused
 use Rattle.sk_tools.proofs.OfflineLaws.{check_unrun}
+use Rattle.sk_tools.proofs.SimulateLaws.{simulate_unrun}
+
+-- words of one command aren't those of another
+other_word : (name other : List ℕ) (app : App) (words : List Text) → is_command name words ≡ true → bytes_eq name other ≡ false → file_in other app words ≡ None
+other_word name other app [] is differ = refl
+other_word name other app (word ∷ words) is differ =
+    let same : word ≡ name = (bytes_eq-Decides word name).0 is in
+    ap (λ b. if b && takes_words app (word ∷ words) then value_of (rows_read app (word ∷ words)) (codes "FILE") else None)
+    (ap (λ w. bytes_eq w other) same ∙ differ)
+
+no_word : (name : List ℕ) (app : App) (words : List Text) → is_command name words ≡ false → file_in name app words ≡ None
+no_word name app words isnt = ap (λ b. if b && takes_words app words then value_of (rows_read app words) (codes "FILE") else None) isnt
 
 -- a reading of a file's name is one of a job
-pub check_job : {file : Option (List ℕ)} {name : List ℕ} → file ≡ Some name → option_map Check file ≡ Some (Check name)
-check_job is = ap (λ read. option_map Check read) is
+pub check_job : (words : List Text) {name : List ℕ} → file_to_check words ≡ Some name → offline_job words ≡ Some (Check name)
+check_job words is = ap (λ read. option_or (option_map Check read) (option_map Simulate (file_to_simulate words))) is
 
-pub no_job : (file : Option (List ℕ)) (why : Refused) → IsRefusalOf file why → IsRefusalOf (option_map Check file) why
-no_job file (refused.Words text) none = ap (λ read. option_map Check read) none
-no_job file refused.Usage none = ap (λ read. option_map Check read) none
-no_job file refused.WantOfMemory none = none
+pub simulate_job : (words : List Text) {name : List ℕ} → is_command (codes "simulate") words ≡ true → file_to_simulate words ≡ Some name → offline_job words ≡ Some (Simulate name)
+simulate_job words command is =
+    ap (λ read. option_or (option_map Check read) (option_map Simulate (file_to_simulate words))) (other_word (codes "simulate") (codes "check") check_app words command refl)
+    ∙ ap (λ read. option_map Simulate read) is
+
+-- no reading as the one where it isn't the other
+no_check : (words : List Text) → is_command (codes "simulate") words ≡ false → file_to_check words ≡ None → offline_job words ≡ None
+no_check words command none =
+    ap (λ read. option_or (option_map Check read) (option_map Simulate (file_to_simulate words))) none
+    ∙ ap (λ read. option_map Simulate read) (no_word (codes "simulate") simulate_app words command)
+
+pub no_check_job : (words : List Text) (why : Refused) → is_command (codes "simulate") words ≡ false → IsRefusalOf (file_to_check words) why → IsRefusalOf (offline_job words) why
+no_check_job words (refused.Words text) command none = no_check words command none
+no_check_job words refused.Usage command none = no_check words command none
+no_check_job words refused.WantOfMemory command none = none
+
+no_simulate : (words : List Text) → is_command (codes "simulate") words ≡ true → file_to_simulate words ≡ None → offline_job words ≡ None
+no_simulate words command none =
+    ap (λ read. option_or (option_map Check read) (option_map Simulate (file_to_simulate words))) (other_word (codes "simulate") (codes "check") check_app words command refl)
+    ∙ ap (λ read. option_map Simulate read) none
+
+pub no_simulate_job : (words : List Text) (why : Refused) → is_command (codes "simulate") words ≡ true → IsRefusalOf (file_to_simulate words) why → IsRefusalOf (offline_job words) why
+no_simulate_job words (refused.Words text) command none = no_simulate words command none
+no_simulate_job words refused.Usage command none = no_simulate words command none
+no_simulate_job words refused.WantOfMemory command none = none
 
 -- no job ends with the status of words without a reading
 no_usage : (job : Job) (files : FilesSeen) (out err : SinkSeen) (answer : ℕ) → Does job files out err answer → answer ≡ 2 → ⊥
 no_usage (Check file) files out err answer does two = let known = rw two at does.known in absurd cc
+no_usage (Simulate file) files out err answer does two = let known = rw two at does.known in absurd cc
 
 -- memory ran out before anything was done
 unrun : (job : Job) (files : FilesSeen) (out err : SinkSeen) → files.faults_now ≡ files.faults → out.faults_now ≡ out.faults
     → out.written_now ≡ out.written → Does job files out err 5
 unrun (Check file) files out err reads writes same = check_unrun file files out err 5 refl reads writes same
+unrun (Simulate file) files out err reads writes same = simulate_unrun file files out err reads writes same
 
 module _ (words : List (List ℕ)) (files : FilesSeen) (out err : SinkSeen) where
   pub offline_ran : (job : Job) (answer : ℕ) → offline_job words ≡ Some job → Does job files out err answer → IsOfflineCall words files out err answer

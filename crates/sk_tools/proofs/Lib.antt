@@ -1,4 +1,6 @@
 pub mod OutsideLaws
 pub mod OfflineLaws
+pub mod SimulateLaws
+pub mod PieceLaws
 pub mod CallLaws
 pub mod TopLaws

@@ -1,5 +1,5 @@
 -- From how a check ended to what the call promises by its number, and from what was said piece by piece to lines.
-use Rattle.std.proofs.Common.{◌≡◌, ◌≢◌, ◌⊎◌, inl, inr, ℕ, ◌<◌, ◌≤◌, ◌^◌, List, [], ◌++◌, length, Bool, true, Option, Some, None, Result, refl, sym, ap, ◌∙◌, arith, append_assoc}
+use Rattle.std.proofs.Common.{◌≡◌, ◌≢◌, ℕ, ◌<◌, ◌≤◌, ◌^◌, List, [], ◌++◌, length, Bool, true, Option, Some, None, Result, refl, sym, ap, ◌∙◌, arith, append_assoc}
 use Rattle.std.proofs.lemmas.List.{append-nil}
 use Rattle.std.specs.Prelude.{IsSomeAnd}
 use Rattle.std.proofs.lemmas.Bool.{le-ltb, lt-ltb}
@@ -9,7 +9,7 @@ use Rattle.sk_config.specs.Reading.{reading}
 use Rattle.sk_tools.specs.Outside.{HasNoFault, Says, Explains, IsContent}
 use Rattle.sk_tools.specs.declared.outside.reading.ReadRefused.{ReadRefused}
 use Rattle.sk_tools.specs.declared.outside.reading.ReadRefused.TheVariants as why
-use Rattle.sk_tools.specs.Found.{Found, Absent, TooLong, found_in, found_by, said_unread, IsJudged, IsOutput}
+use Rattle.sk_tools.specs.Found.{Absent, TooLong, found_in, found_by, said_unread, IsJudged, IsOutput}
 use Rattle.sk_tools.specs.Check.{FoundConfig, exit_of, IsCheckStatus, MayEnd, EndsUnread, Leaves, CountsReads, CountsWrites, said_of, said_by, checked_text}
 use Rattle.sk_tools.specs.Seen.{FilesSeen, SinkSeen}
 use Rattle.sk_tools.specs.OfflineCall.{IsCounted, IsCheckCall}

@@ -1,12 +1,14 @@
 -- What the commands on files are to do, by their words.
-use Rattle.std.specs.Prelude.{◌≡◌, ℕ, Option, Some, None, option_map, List}
+use Rattle.std.specs.Prelude.{ℕ, Option, option_map, List}
+use Rattle.std.specs.Option.{option_or}
 use Rattle.clap.specs.Words.{Text}
-use Rattle.sk_tools.specs.Words.{file_to_check}
+use Rattle.sk_tools.specs.Words.{file_to_check, file_to_simulate}
 
 -- a case for each command
 pub data Job : Type 0 where
   Check : List ℕ → Job
+  Simulate : List ℕ → Job
 
 -- the job that words ask for
 abbrev pub offline_job : List Text → Option Job
-offline_job words = option_map Check (file_to_check words)
+offline_job words = option_or (option_map Check (file_to_check words)) (option_map Simulate (file_to_simulate words))

@@ -9,3 +9,5 @@ pub mod Jobs
 pub mod Seen
 pub mod PipeCall
 pub mod OfflineCall
+pub mod Pieces
+pub mod Simulate

@@ -6,7 +6,9 @@ use Rattle.sk_tools.specs.Usage.{IsUsage}
 use Rattle.sk_tools.specs.Outside.{HasNoFault}
 use Rattle.sk_tools.specs.Found.{found_in, IsJudged, IsOutput}
 use Rattle.sk_tools.specs.Check.{IsCheckStatus, checked_text, said_by}
-use Rattle.sk_tools.specs.Jobs.{Job, Check, offline_job}
+use Rattle.sk_tools.specs.Jobs.{Job, Check, Simulate, offline_job}
+use Rattle.sk_tools.specs.Simulate.{IsSimulateStatus, LeavesBy}
+use Rattle.sk_script.specs.Reading.{reading as scenario_reading}
 use Rattle.sk_tools.specs.Seen.{FilesSeen, SinkSeen}
 
 -- the count of the files' faults rose with status 3, that of the output's with status 4, and with no other
@@ -28,9 +30,17 @@ pub record IsCheckCall (file : List ℕ) (files : FilesSeen) (out err : SinkSeen
   pub said : files.tells ≡ true → err.tells ≡ true → HasNoFault err.faults err.faults_now → answer ≢ 5 →
       err.written_now ≡ err.written ++ said_by file (found_in reading (files.content file)) answer
 
+-- `simulate FILE`, by the files, the output, standard error and the answer
+pub record IsSimulateCall (file : List ℕ) (files : FilesSeen) (out err : SinkSeen) (answer : ℕ) : Type 0 where
+  pub known : IsSimulateStatus answer
+  pub counted : IsCounted files out answer
+  -- what the file holds is judged by the status: a scenario, or not; and what is left of the run of one
+  pub leaves : files.tells ≡ true → LeavesBy answer file (found_in scenario_reading (files.content file)) out err
+
 -- what is done of a job: a record for each
 abbrev pub Does : Job → FilesSeen → SinkSeen → SinkSeen → ℕ → Type 0
 Does (Check file) files out err answer = IsCheckCall file files out err answer
+Does (Simulate file) files out err answer = IsSimulateCall file files out err answer
 
 -- words without a reading: nothing is read, and nothing is written
 pub record IsRefusedCall (files : FilesSeen) (out : SinkSeen) (answer : ℕ) : Type 0 where

@@ -1,5 +1,5 @@
 -- What the status of `pipe` says.
-use Rattle.std.specs.Prelude.{◌≡◌, ◌⊎◌, ℕ, ◌==◌, Bool, true, Option, Some, None, List, [], ◌∷◌, length, drop, IsTrue}
+use Rattle.std.specs.Prelude.{◌≡◌, ◌⊎◌, ℕ, ◌==◌, Bool, true, Some, List, [], ◌∷◌, length, drop, IsTrue}
 use Rattle.std.specs.List.{list_any}
 use Rattle.sk_base.specs.Talk.{Said}
 use Rattle.sk_base.specs.declared.status.ExitStatus.{ExitStatus}

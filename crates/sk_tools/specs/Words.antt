@@ -22,6 +22,9 @@ pipe_app = with_rule (with_rule (with_rule (new_app (codes "pipe"))
 unfoldable pub check_app : App
 check_app = with_rule (new_app (codes "check")) (needed (codes "FILE"))
 
+unfoldable pub simulate_app : App
+simulate_app = with_rule (new_app (codes "simulate")) (needed (codes "FILE"))
+
 -- the command takes the words
 unfoldable pub takes_words : App → List Text → Bool
 takes_words app words = length (fault_of app words) == 0
@@ -67,8 +70,14 @@ abbrev pub plan_of : List Text → Option PipePlan
 plan_of words =
     if is_command (codes "pipe") words && takes_words pipe_app words then plan_in (rows_read pipe_app words) else None
 
--- ## `check FILE`
+-- ## `check FILE`, `simulate FILE`
+
+-- the file of the command of this name
+abbrev pub file_in : List ℕ → App → List Text → Option Text
+file_in name app words = if is_command name words && takes_words app words then value_of (rows_read app words) (codes "FILE") else None
 
 abbrev pub file_to_check : List Text → Option Text
-file_to_check words =
-    if is_command (codes "check") words && takes_words check_app words then value_of (rows_read check_app words) (codes "FILE") else None
+file_to_check words = file_in (codes "check") check_app words
+
+abbrev pub file_to_simulate : List Text → Option Text
+file_to_simulate words = file_in (codes "simulate") simulate_app words

@@ -4,16 +4,17 @@ ghost use Rattle.std.specs.Prelude.{◌≡◌, ◌≢◌, ℕ, true, List, strin
 ghost use Rattle.sk_config.specs.Reading.{reading};
 ghost use Rattle.sk_tools.specs.Outside.{Says};
 ghost use Rattle.sk_tools.specs.Found.{found_in, found_by, complaint, said_unread};
-ghost use Rattle.sk_tools.specs.Check.{valid_config, warning_lines, said_of, checked_text, MayEnd, EndsUnread, Leaves, CountsReads, CountsWrites};
+ghost use Rattle.sk_tools.specs.Check.{valid_config, said_of, checked_text, MayEnd, EndsUnread, Leaves, CountsReads, CountsWrites};
 ghost use Rattle.sk_tools.specs.declared.check.status.CheckStatus.TheVariants.{OutOfMemory, ReadFault};
 
 mod status;
 
+use crate::outside::lines::warn;
 use crate::outside::reading::{ReadRefused, read_file};
 use crate::outside::writing::{say, say_line, write_out};
 use crate::outside::{OUT_OF_MEMORY_LINE, WRITE_FAULT_LINE};
 use sk_base::{Files, Sink, WantOfMemory};
-use sk_config::{ConfigFault, ConfigRead, Warning, config_text, read_config};
+use sk_config::{ConfigFault, ConfigRead, config_text, read_config};
 pub use status::CheckStatus;
 use std::alloc::Global;
 
@@ -120,22 +121,6 @@ fn output_text(alloc: Global, read: &ConfigRead) -> Result<String, WantOfMemory>
     let mut text = config_text(alloc, &read.config)?;
     text.push_str("\n")?;
     Ok(text)
-}
-
-/// Says each warning on a line of its own.
-fn warn<E: Sink>(alloc: Global, warnings: &[Warning], err: &mut E)
-    ensures tells { E.tells err.new ≡ E.tells err.old }
-    ensures says { Says (E.tells err.old) (E.faults err.old) (E.faults err.new) (E.written err.old) (E.written err.new) (warning_lines warnings.now) }
-{
-    for warning in warnings {
-        say_line(
-            alloc,
-            err,
-            "warning: ",
-            warning.path.as_str(),
-            warning.rule(),
-        );
-    }
 }
 
 /// Says what is wrong with something.

@@ -26,6 +26,7 @@ pub mod laws;
 mod offline;
 mod outside;
 mod pipe;
+mod simulate;
 #[cfg(test)]
 mod testing;
 mod words;

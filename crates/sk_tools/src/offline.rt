@@ -10,21 +10,26 @@ mod tests;
 use crate::check::{check, out_of_memory};
 use crate::outside::USAGE_LINE;
 use crate::outside::writing::say;
-use crate::words::Refused;
+use crate::simulate::simulate;
 use crate::words::check::read_check;
+use crate::words::simulate::read_simulate;
+use crate::words::{Refused, is_command};
 use sk_base::{ExitStatus, Files, Sink};
 use std::alloc::Global;
 
-/// The commands on files: `check FILE`. Files are read, the text is written to `out`, and what
-/// there is to say of the run to `err`; a fault of `err` changes nothing. It makes finitely many
-/// calls of the outside, and returns if they do.
+/// The commands on files: `check FILE` and `simulate FILE`. Files are read, the text is written to
+/// `out`, and what there is to say of the run to `err`; a fault of `err` changes nothing. It makes
+/// finitely many calls of the outside, and returns if they do.
 ///
-/// - 0: the file holds a configuration, and its canonical text and a line end were written.
-/// - 1: the file is absent, has more than 16,777,216 bytes, or holds no configuration.
+/// - 0: the file holds a configuration, and its canonical text and a line end were written; or a
+///   scenario, all participants finished, and their journals were written.
+/// - 1: the file is absent, has more than 16,777,216 bytes, or holds no configuration or scenario.
 /// - 2: the words have no reading, or are those of another call.
 /// - 3: the file couldn't be read.
 /// - 4: the output couldn't be written: none, a part or all of the text was.
 /// - 5: memory ran out.
+/// - 6: as 0, and a participant was aborted.
+/// - 12: not all participants finished, and none could go on; nothing was written.
 pub fn silkit_offline<F: Files, O: Sink, E: Sink>(
     alloc: Global,
     words: &[String],
@@ -50,9 +55,18 @@ pub fn silkit_offline<F: Files, O: Sink, E: Sink>(
         })
         result }
 {
-    match read_check(alloc, words) {
-        Ok(file) => check(alloc, file, files, out, err).exit_status().number(),
-        Err(refused) => refuse_words(refused, err).number(),
+    if is_command(words, "simulate") {
+        match read_simulate(alloc, words) {
+            Ok(file) => simulate(alloc, file, files, out, err)
+                .exit_status()
+                .number(),
+            Err(refused) => refuse_words(refused, err).number(),
+        }
+    } else {
+        match read_check(alloc, words) {
+            Ok(file) => check(alloc, file, files, out, err).exit_status().number(),
+            Err(refused) => refuse_words(refused, err).number(),
+        }
     }
 }
 

@@ -1,5 +1,6 @@
 //! The outside as the commands use it: whole files, whole texts, and lines on standard error.
 
+pub mod lines;
 pub mod reading;
 pub mod writing;
 
@@ -14,3 +15,6 @@ pub const OUT_OF_MEMORY_LINE: &str = "silkit: out of memory\n";
 
 /// Where the output couldn't be written.
 pub const WRITE_FAULT_LINE: &str = "silkit: write fault\n";
+
+/// Where no participant of a run can go on, and not all are finished.
+pub const STALLED_LINE: &str = "silkit: stalled\n";

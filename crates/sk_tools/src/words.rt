@@ -9,7 +9,9 @@ ghost use Rattle.sk_tools.specs.Words as words_of;
 ghost use Rattle.sk_tools.specs.declared.words.Refused.TheVariants.{WantOfMemory};
 
 pub mod check;
+mod file;
 pub mod pipe;
+pub mod simulate;
 
 use clap::error::ErrorKind;
 use clap::{Arg, ArgAction, ArgMatches, Command};

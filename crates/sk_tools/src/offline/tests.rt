@@ -112,6 +112,62 @@ fn files_that_are_not_read(rt: HostRuntime) -> Result<(), Fail> {
     Ok(())
 }
 
+const SIMULATE: [&str; 2] = ["simulate", "a.json"];
+
+/// One participant of two steps.
+const ALONE: &str = "{\"duration\":2000000,\"participants\":[{\"name\":\"A\",\"step\":1000000}]}";
+
+const JOURNAL: &str = "world 1
+participant 0 A
+journal 0 22
+state ServicesCreated
+system ServicesCreated
+state CommunicationInitializing
+system CommunicationInitializing
+state CommunicationInitialized
+system CommunicationInitialized
+state ReadyToRun
+system ReadyToRun
+state Running
+system Running
+begin 1 0
+end 1
+begin 2 1000000
+end 2
+state Stopping
+system Stopping
+state Stopped
+system Stopped
+state ShuttingDown
+system ShuttingDown
+state Shutdown
+system Shutdown
+";
+
+#[test]
+fn scenarios(rt: HostRuntime) -> Result<(), Fail> {
+    let alone = ALONE.as_bytes();
+    let read_fault = "silkit: read fault: a.json\n";
+    let cut = "silkit: write fault\n";
+    expect(&rt, &SIMULATE, alone, NEVER, (0, JOURNAL, ""))?;
+    expect(
+        &rt,
+        &SIMULATE,
+        alone,
+        (CallKind::Read, 1),
+        (3, "", read_fault),
+    )?;
+    // A write takes 64 bytes of the text.
+    let front = JOURNAL.get(..64).ok_or("short")?;
+    expect(&rt, &SIMULATE, alone, (CallKind::Write, 2), (4, front, cut))?;
+    let nobody = b"{\"duration\":0,\"participants\":[]}";
+    let said = "silkit: /participants: out of range\n";
+    expect(&rt, &SIMULATE, nobody, NEVER, (1, "", said))?;
+    let absent = ["simulate", "s.json"];
+    let said = "silkit: s.json: no such file\n";
+    expect(&rt, &absent, alone, NEVER, (1, "", said))
+}
+
 /// What is said of words without a reading.
 fn said_of(alloc: Global, words: &[&str]) -> Result<String, Fail> {
     let mut files = files_of(alloc, b"{}", Vec::new(alloc))?;

@@ -5,7 +5,8 @@ ghost use Rattle.clap.specs.Words.{app_of};
 ghost use Rattle.sk_tools.specs.Words.{check_app, file_to_check};
 ghost use Rattle.sk_tools.specs.Usage.{IsRefusalOf};
 
-use crate::words::{Refused, is_command, needed, parse, value};
+use crate::words::file::read_file_word;
+use crate::words::{Refused, needed};
 use clap::Command;
 use std::alloc::{AllocError, Global};
 
@@ -22,14 +23,8 @@ pub fn read_check<'a>(alloc: Global, words: &'a [String]) -> Result<&'a str, Ref
         (λ file. file_to_check (map string_bytes words.entry.now) ≡ Some file.now)
         (IsRefusalOf (file_to_check (map string_bytes words.entry.now))) }
 {
-    if !is_command(words, "check") {
-        return Err(Refused::Usage);
-    }
-    let matches = parse(alloc, check_command(alloc)?, words)?;
-    match value(&matches, "FILE") {
-        Some(file) => Ok(file),
-        None => Err(Refused::Usage),
-    }
+    let command = check_command(alloc)?;
+    read_file_word(alloc, "check", command, words)
 }
 
 fn check_command<'a>(alloc: Global) -> Result<Command<'a>, AllocError>

@@ -8,5 +8,5 @@ is_simple : is_simple_and_free check_app ≡ true
 unfolding check_app clap_on_literals
 is_simple = refl
 
-pub parse-requires : goal.parse-requires
-parse-requires c = ap is_simple_and_free c.in_ok-check_command.ensures ∙ is_simple
+pub read_file_word-requires : goal.read_file_word-requires
+read_file_word-requires c = ap is_simple_and_free c.in_ok-command.ensures ∙ is_simple

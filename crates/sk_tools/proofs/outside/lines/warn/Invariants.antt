@@ -1,7 +1,7 @@
 use Rattle.std.proofs.Common.{◌≡◌, take}
 use Rattle.sk_tools.specs.Outside.{Says}
 use Rattle.sk_tools.specs.Check.{warning_lines}
-use Rattle.sk_tools.proofs.check.warn.Given as goal
+use Rattle.sk_tools.proofs.outside.lines.warn.Given as goal
 
 abbrev pub invariant-loop-warning : goal.invariant-loop-warning
 invariant-loop-warning g l = record {

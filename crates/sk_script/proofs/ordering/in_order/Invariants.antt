@@ -1,0 +1,6 @@
+use Rattle.std.proofs.Common.{◌≡◌}
+use Rattle.sk_script.specs.Placing.{in_order}
+use Rattle.sk_script.proofs.ordering.in_order.Given as goal
+
+abbrev pub invariant-loop-part : goal.invariant-loop-part
+invariant-loop-part l = l.ordered.items ≡ in_order l.yielded

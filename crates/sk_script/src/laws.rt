@@ -1,0 +1,28 @@
+//! Laws of the format: functions that do nothing, whose contracts are the laws.
+
+ghost use Rattle.std.specs.Prelude.{◌≡◌, ◌↔◌, ◌≢◌, Err, None, [], IsTrue, ℕ, List};
+ghost use Rattle.std.specs.List.Sorted.{IsPermutation};
+ghost use Rattle.sk_msg.specs.Each.{each_after};
+ghost use Rattle.sk_msg.specs.Rules.{is_new_name};
+ghost use Rattle.sk_config.specs.Json.{json_of};
+ghost use Rattle.sk_script.specs.Orders.{are_sorted};
+ghost use Rattle.sk_script.specs.Placing.{in_order};
+ghost use Rattle.sk_script.specs.Reading.{reading};
+ghost use Rattle.sk_script.specs.Scenarios.{PartValue};
+ghost use Rattle.sk_script.specs.declared.fault.ScenarioFault.TheVariants.{NotJson, WantOfMemory};
+
+/// Participants in order are the same ones.
+pub fn same_participants()
+    ensures { (parts : List PartValue) → IsPermutation parts (in_order parts) }
+{}
+
+/// Names in the order of bytes are distinct.
+pub fn sorted_names_differ()
+    ensures { (names : List (List ℕ)) → IsTrue (are_sorted names) → IsTrue (each_after is_new_name [] names) }
+{}
+
+/// Bytes are no JSON exactly where they have no JSON value, and no bytes say that memory ran out.
+pub fn not_json_exactly()
+    ensures no_json { (bytes : List ℕ) → (reading bytes ≡ Err NotJson) ↔ (json_of bytes ≡ None) }
+    ensures no_memory { (bytes : List ℕ) → reading bytes ≢ Err WantOfMemory }
+{}
