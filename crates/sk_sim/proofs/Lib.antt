@@ -16,5 +16,6 @@ pub mod Answered
 pub mod Itself
 pub mod Ending
 pub mod Following
+pub mod Causes
 pub mod Seating
 pub mod Simulating

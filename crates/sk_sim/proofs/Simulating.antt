@@ -6,6 +6,7 @@ use Rattle.std.proofs.lemmas.List.{length-map}
 use Rattle.std.proofs.lemmas.Option.{slice_get_within}
 use Rattle.sk_msg.specs.declared.entry.Entry.{Entry}
 use Rattle.sk_law.specs.declared.made.Made.{Made}
+use Rattle.sk_law.specs.declared.setup.Setup.{Setup}
 use Rattle.sk_law.specs.World.{Member, IsWorld}
 use Rattle.sk_node.specs.Calls.{is_idle}
 use Rattle.sk_node.specs.Lists.{Lists}
@@ -21,6 +22,7 @@ use Rattle.sk_sim.specs.Runs.{IsMember, IsRun}
 use Rattle.sk_sim.specs.Scripts.{Origin, lists_of}
 use Rattle.sk_sim.specs.Simulations.{AreSeats, Plays, IsSimulation, IsStall}
 use Rattle.sk_sim.proofs.Lists.{slice_get-some, slice_get-from_map}
+use Rattle.sk_sim.proofs.Causes.{IsAlone, abort_has_cause}
 use Rattle.sk_sim.proofs.Following.{follows_idle}
 use Rattle.sk_sim.proofs.Seating.{names_are}
 
@@ -68,6 +70,23 @@ module _ (S : ScenarioValue) (ended : Bool) (vs ws : List (View Origin)) (of : A
         setup = k.setup ∙ seat.setup part at_part;
         follows = follows_idle m.setup m.past m.made (run.world.lawful i m at) (subst (λ (l : List Made). list_all (λ one. is_idle one) l ≡ true) calls (quiet i s.now s.at_now)) k.unasked k.fitting;
         alone = k.alone;
+        fitting = k.fitting;
+      }
+
+  -- each took part alone
+  took_part : AreIdle ws → (i : ℕ) (m : Member) → slice_get run.members i ≡ Some m → IsAlone run.members i m
+  took_part quiet i m at =
+      let s = stood i m at in let k = s.member in let seat = of.each i s.was s.at_was in
+      let count : length run.members ≡ length S.participants = run.count.1 ∙ of.count in
+      let part = slice_get-some S.participants i (subst (λ n. i < n) count (slice_get_within run.members i m at)) in
+      let calls : s.now.lists.made ≡ m.made = k.made ∙ ap (λ (l : Lists). l.made ++ m.made) seat.lists in record {
+        names = ap (λ (x : Setup). length x.names) (k.setup ∙ seat.setup part.0 part.1) ∙ (length-map S.participants (λ (x : PartValue). x.name) ∙ sym count);
+        number = run.world.numbered i m at;
+        lawful = run.world.lawful i m at;
+        idle = subst (λ (l : List Made). list_all (λ one. is_idle one) l ≡ true) calls (quiet i s.now s.at_now);
+        unasked = k.unasked;
+        alone = k.alone;
+        linked = λ before q reason after e. run.linked i m q reason before after at e;
       }
 
   journals : map (λ (c : Card). c.past.journal) (cards_in ws) ≡ map (λ (m : Member). m.past.journal) run.members
@@ -93,6 +112,7 @@ module _ (S : ScenarioValue) (ended : Bool) (vs ws : List (View Origin)) (of : A
     linked = run.linked;
     all_got = run.all_got;
     quiet = run.quiet;
+    limited = abort_has_cause run.members (took_part quiet) run.all_got;
     finished = run.finished;
     unfinished = run.unfinished;
   }

@@ -1,13 +1,17 @@
 -- What the run of a scenario comes to.
-use Rattle.std.specs.Prelude.{◌≡◌, ◌≢◌, ℕ, Bool, true, false, List, ◌∷◌, ◌++◌, length, map, Some, slice_get}
+use Rattle.std.specs.Prelude.{◌≡◌, ◌≢◌, ℕ, Bool, true, false, List, ◌∷◌, ◌++◌, length, map, Some, slice_get, IsTrue}
+use Rattle.std.specs.List.{list_any}
 use Rattle.sk_msg.specs.declared.entry.Entry.{Entry}
-use Rattle.sk_msg.specs.declared.entry.Entry.TheVariants.{Gone}
+use Rattle.sk_msg.specs.declared.entry.Entry.TheVariants.{State as Entered, Gone, Fault}
+use Rattle.sk_msg.specs.declared.state.State.TheVariants.{Aborting}
+use Rattle.sk_msg.specs.States.{is_state}
 use Rattle.sk_law.specs.Readings.{got, put}
 use Rattle.sk_law.specs.Rows.{is_quiet}
 use Rattle.sk_law.specs.Script.{Follows, HasNoTools}
 use Rattle.sk_law.specs.World.{Member, IsWorld, AreFinished}
 use Rattle.sk_law.specs.Safe.{IsSafe}
 use Rattle.sk_script.specs.Scenarios.{PartValue, ScenarioValue, names_of}
+use Rattle.sk_sim.specs.Parts.{is_stray}
 use Rattle.sk_sim.specs.Runs.{WereReady}
 use Rattle.sk_sim.specs.Scripts.{idle, setup_by, Origin, no_lists}
 use Rattle.sk_mesh.specs.Places.{Account}
@@ -33,15 +37,32 @@ pub record AreSeats (S : ScenarioValue) (vs : List (View Origin)) : Type 0 where
 abbrev pub AreFresh : List Account → Type 0
 AreFresh ends = (i : ℕ) (a : Account) → slice_get ends i ≡ Some a → IsFresh a
 
--- a participant of the scenario: it has the setup that the scenario gives it, and its app asked for what its script says
+-- a participant of the scenario: it has the setup that the scenario gives it, its app asked for what its script says, no tool was
+-- added, and no completion came that doesn't fit
 pub record Plays (S : ScenarioValue) (i : ℕ) (part : PartValue) (m : Member) : Type 0 where
   pub setup : m.setup ≡ setup_by S i part
   pub follows : Follows idle m.past m.made
   pub alone : HasNoTools m.past
+  pub fitting : list_any is_stray m.past.journal ≡ false
+
+-- Aborting is entered
+abbrev pub is_aborting : Entry → Bool
+is_aborting (Entered state) = is_state Aborting state
+is_aborting _ = false
+
+-- a limit is reached
+abbrev pub is_fault : Entry → Bool
+is_fault (Fault limit) = true
+is_fault _ = false
+
+-- one of these reached a limit
+abbrev pub IsLimited : List Member → Type 0
+IsLimited members = (q : ℕ) × (other : Member) × (slice_get members q ≡ Some other) × IsTrue (list_any is_fault other.past.journal)
 
 -- these journals, of participants of these names, are of a run of the scenario: a lawful world, so a safe one, in which each
 -- follows the scenario, whoever was coordinated ran only behind the required ones, no link is gone, each message that was put
--- was got, and nothing follows by itself. All are finished, or not all are
+-- was got, and nothing follows by itself; and a participant was aborted only where one reached a limit. All are finished, or not
+-- all are
 pub record IsSimulation (ended : Bool) (S : ScenarioValue) (names : List (List ℕ)) (journals : List (List Entry)) : Type 0 where
   pub members : List Member
   pub count : length members ≡ length S.participants
@@ -56,6 +77,7 @@ pub record IsSimulation (ended : Bool) (S : ScenarioValue) (names : List (List �
   pub all_got : (p q : ℕ) (sender receiver : Member) → slice_get members p ≡ Some sender → slice_get members q ≡ Some receiver →
       p ≢ q → got receiver.past.journal p ≡ put sender.past.journal q
   pub quiet : (p : ℕ) (m : Member) → slice_get members p ≡ Some m → is_quiet m.setup m.past ≡ true
+  pub limited : (p : ℕ) (m : Member) → slice_get members p ≡ Some m → IsTrue (list_any is_aborting m.past.journal) → IsLimited members
   pub finished : ended ≡ true → AreFinished members
   pub unfinished : ended ≡ false → AreFinished members → ⊥
 

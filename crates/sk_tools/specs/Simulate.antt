@@ -6,14 +6,11 @@ use Rattle.sk_base.specs.declared.status.ExitStatus.TheVariants as exit
 use Rattle.sk_base.specs.Statuses.{status_number}
 use Rattle.sk_base.specs.Talk.{Rose}
 use Rattle.sk_msg.specs.declared.entry.Entry.{Entry}
-use Rattle.sk_msg.specs.declared.entry.Entry.TheVariants.{State as Entered}
-use Rattle.sk_msg.specs.declared.state.State.TheVariants.{Aborting}
-use Rattle.sk_msg.specs.States.{is_state}
 use Rattle.sk_script.specs.Faults.{fault_path, fault_rule, rule_text}
 use Rattle.sk_script.specs.Scenarios.{ScenarioValue}
 use Rattle.sk_script.specs.declared.fault.ScenarioFault.{ScenarioFault}
 use Rattle.sk_script.specs.declared.scenario.ScenarioRead.{ScenarioRead}
-use Rattle.sk_sim.specs.Simulations.{IsSimulation}
+use Rattle.sk_sim.specs.Simulations.{IsSimulation, is_aborting}
 use Rattle.sk_text.specs.Lines.{world_text}
 use Rattle.sk_tools.specs.Outside.{IsPartWritten, Says}
 use Rattle.sk_tools.specs.Check.{warning_lines}
@@ -40,10 +37,6 @@ remarks file found =
     remarks_by (λ (fault : ScenarioFault). complaint (fault_path fault) (broken_rule fault)) (λ (read : ScenarioRead). warning_lines read.warnings) file found
 
 -- ## Aborted participants
-
-abbrev pub is_aborting : Entry → Bool
-is_aborting (Entered state) = is_state Aborting state
-is_aborting _ = false
 
 -- State(Aborting) stands in the journal
 unfoldable pub has_aborted : List Entry → Bool
@@ -93,8 +86,13 @@ EndsUnread refused.WantOfMemory ended = ended ≡ OutOfMemory
 
 -- all are finished, unless it stalled
 abbrev pub has_ended : SimulateStatus → Bool
+has_ended Done = true
+has_ended Aborted = true
+has_ended WriteFault = true
+has_ended OutOfMemory = true
+has_ended BadFile = true
+has_ended ReadFault = true
 has_ended Stalled = false
-has_ended _ = true
 
 -- with Done no participant was aborted, with Aborted one was
 abbrev pub Aborts : SimulateStatus → List (List Entry) → Type 0

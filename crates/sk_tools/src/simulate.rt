@@ -4,11 +4,11 @@ ghost use Rattle.std.specs.Prelude.{◌≡◌, ◌≢◌, ◌<◌, ℕ, true, Li
 ghost use Rattle.sk_script.specs.Faults.{fault_path};
 ghost use Rattle.sk_script.specs.Reading.{reading};
 ghost use Rattle.sk_script.specs.declared.fault.ScenarioFault.TheVariants as faults;
-ghost use Rattle.sk_sim.specs.Simulations.{journals_of};
+ghost use Rattle.sk_sim.specs.Simulations.{journals_of, is_aborting};
 ghost use Rattle.sk_text.specs.Lines.{world_text};
 ghost use Rattle.sk_tools.specs.Outside.{Says};
 ghost use Rattle.sk_tools.specs.Found.{Valid, found_in, found_by, complaint, said_unread};
-ghost use Rattle.sk_tools.specs.Simulate.{Leaves, LeavesRun, EndsUnread, CountsReads, CountsWrites, IsRunStatus, JudgesRun, broken_rule, run_remarks, has_aborted, is_aborting};
+ghost use Rattle.sk_tools.specs.Simulate.{Leaves, LeavesRun, EndsUnread, CountsReads, CountsWrites, IsRunStatus, JudgesRun, broken_rule, run_remarks, has_aborted};
 ghost use Rattle.sk_tools.specs.declared.simulate.status.SimulateStatus.TheVariants.{BadFile, OutOfMemory, ReadFault};
 
 mod status;

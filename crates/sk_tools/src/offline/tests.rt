@@ -160,12 +160,36 @@ fn scenarios(rt: HostRuntime) -> Result<(), Fail> {
     // A write takes 64 bytes of the text.
     let front = JOURNAL.get(..64).ok_or("short")?;
     expect(&rt, &SIMULATE, alone, (CallKind::Write, 2), (4, front, cut))?;
+    expect(
+        &rt,
+        &SIMULATE,
+        alone,
+        (CallKind::Flush, 1),
+        (4, JOURNAL, cut),
+    )?;
     let nobody = b"{\"duration\":0,\"participants\":[]}";
     let said = "silkit: /participants: out of range\n";
     expect(&rt, &SIMULATE, nobody, NEVER, (1, "", said))?;
     let absent = ["simulate", "s.json"];
     let said = "silkit: s.json: no such file\n";
     expect(&rt, &absent, alone, NEVER, (1, "", said))
+}
+
+/// A journal that reaches its limit ends the run.
+#[test]
+fn a_journal_is_full(rt: HostRuntime) -> Result<(), Fail> {
+    let alloc = rt.alloc();
+    let endless = b"{\"duration\":500000,\"participants\":[{\"name\":\"A\",\"step\":1}]}";
+    let mut files = files_of(alloc, endless, Vec::new(alloc))?;
+    let mut out = MemSink::new(alloc, Vec::new(alloc));
+    let mut err = MemSink::new(alloc, Vec::new(alloc));
+    let words = words_of(alloc, &SIMULATE)?;
+    assert_eq!(rt;
+        silkit_offline(alloc, &words, &mut files, &mut out, &mut err),
+        6
+    );
+    assert_eq!(rt; err.written(), "silkit: ended by abort: A\n".as_bytes());
+    Ok(())
 }
 
 /// What is said of words without a reading.
