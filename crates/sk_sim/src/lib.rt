@@ -1,5 +1,8 @@
 //! A run of several participants in one process.
 //!
+//! [`run_rounds`] runs a scenario: it makes the [`seats`] of its participants, turns them to their end, and
+//! answers names and journals.
+//!
 //! A [`Seat`] is a participant with its app and its ends of the rings of a mesh. [`turn_rounds`] has
 //! each seat take one turn after another until all are finished or none has anything to do; it always
 //! comes to an end by itself, without a clock, a budget or a handle.
@@ -9,6 +12,8 @@
 //! let seat = Seat::new(alloc, setup, app, own_ends)?; // one for each end, in number order
 //! let (seats, finished) = turn_rounds(seats)?;        // the same seats, each where it came to
 //! let journal = seat.close();
+//!
+//! let run = run_rounds(alloc, &scenario)?;            // all of that, for the participants of a scenario
 //! ```
 //!
 //! The journals of the answered seats are a lawful world, and so a safe one: whoever begins a step
@@ -16,7 +21,8 @@
 //! false all stand still: each message that was put was got, and nothing follows by itself.
 //!
 //! A round costs what it moves and adds. A seat that has nothing to do looks at its rings and at its
-//! peers a few times, and at no journal.
+//! peers a few times, and at no journal. All journals stand in memory until the run is over, 64 bytes
+//! for each entry; each has a little over 500,000 entries at most.
 #![tactic(auto)]
 
 mod looks;

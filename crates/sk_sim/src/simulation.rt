@@ -47,6 +47,9 @@ impl From<WantOfMemory> for SimFault {
 }
 
 /// Runs all participants of a scenario in rounds, until all are finished or none has anything to do.
+/// The journals are those of a lawful and safe world that follows the scenario.
+///
+/// `Stalled` comes where not all are finished; `WantOfMemory` says nothing of the run.
 pub fn run_rounds(alloc: Global, scenario: &Scenario) -> Result<Finished, SimFault>
     ensures finished { IfOk result (λ run. IsSimulation true scenario.now run.names (journals_of run)) }
     ensures stalled { IfErr result (λ fault. IsStall scenario.now fault) }
@@ -62,8 +65,8 @@ pub fn run_rounds(alloc: Global, scenario: &Scenario) -> Result<Finished, SimFau
     }
 }
 
-/// The seats of a scenario's participants in number order, over one mesh whose rings have room for 64
-/// messages each.
+/// The seats of a scenario's participants, in the order of their numbers and before their first turn, over
+/// one mesh whose rings have room for 64 messages each. There are 1 to 32 of them.
 pub fn seats(alloc: Global, scenario: &Scenario) -> Result<Vec<Seat<Scripted>>, WantOfMemory>
     ensures mesh { IfOk result (λ seats. IsMesh (places (cards seats.items))) }
     ensures unturned { IfOk result (λ seats. AreUnturned (views seats.items)) }
