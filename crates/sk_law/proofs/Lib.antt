@@ -13,3 +13,5 @@ pub mod TakingOut
 pub mod Hearing
 pub mod Starting
 pub mod Readers
+pub mod Serving
+pub mod Keeping

@@ -39,7 +39,7 @@ all_ext f g a zero h = refl
 all_ext f g a (suc n) h =
     ap₂ (λ b c. b && c) (h a (omega arith) (omega arith)) (all_ext f g (a + 1) n (λ p le lt. h p (omega arith) (omega arith)))
 
-any_ext : (f g : ℕ → Bool) (a n : ℕ) → ((p : ℕ) → a ≤ p → p < a + n → f p ≡ g p) → list_any f (range_with_len a n) ≡ list_any g (range_with_len a n)
+pub any_ext : (f g : ℕ → Bool) (a n : ℕ) → ((p : ℕ) → a ≤ p → p < a + n → f p ≡ g p) → list_any f (range_with_len a n) ≡ list_any g (range_with_len a n)
 any_ext f g a zero h = refl
 any_ext f g a (suc n) h =
     ap₂ (λ b c. b || c) (h a (omega arith) (omega arith)) (any_ext f g (a + 1) n (λ p le lt. h p (omega arith) (omega arith)))

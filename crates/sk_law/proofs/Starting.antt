@@ -1,21 +1,29 @@
 -- Before the first entry.
-use Rattle.std.specs.Prelude.{◌≡◌, refl, ℕ, ◌+◌, ◌<◌, ◌≤◌, ◌^◌, min, Bool, true, false, List, [], ◌∷◌, replicate, IsTrue, length, drop, Option, Some, None, slice_index_or, slice_set, IfSome, if◌then◌else◌}
+use Rattle.std.specs.Prelude.{◌≡◌, refl, ℕ, zero, suc, ◌+◌, ◌<◌, ◌≤◌, ◌^◌, min, Bool, true, false, List, [], ◌∷◌, replicate, IsTrue, length, drop, Option, Some, None, slice_index_or, slice_set, IfSome, if◌then◌else◌}
 use Rattle.std.specs.List.{fold, flat_map}
 use Rattle.std.specs.Option.{option_map, option_or}
 use Rattle.std.proofs.Common.{ap, sym, ◌∙◌, subst, arith, length-set}
 use Rattle.std.proofs.lemmas.List.{length-replicate, get_or-replicate}
 use Rattle.std.proofs.lemmas.Bool.{eq-eqb}
+use Rattle.sk_msg.specs.declared.service.Service.{Service}
+use Rattle.sk_msg.specs.declared.service.ServiceKind.{ServiceKind}
+use Rattle.sk_msg.specs.declared.service.ServiceKind.TheVariants as kinds
 use Rattle.sk_msg.specs.declared.state.State.{State}
 use Rattle.sk_msg.specs.declared.state.State.TheVariants.{Invalid}
 use Rattle.sk_msg.specs.Rules.{is_step_size}
+use Rattle.sk_pubsub.specs.Announcing.{Announcing, announced_by, nothing_announced}
 use Rattle.sk_system.specs.View.{View}
+use Rattle.sk_law.specs.declared.memory.ServiceState.{ServiceState}
 use Rattle.sk_law.specs.declared.setup.Setup.{Setup}
 use Rattle.sk_law.specs.Order.{said_of}
 use Rattle.sk_law.specs.Links.{peers}
 use Rattle.sk_law.specs.declared.line.Line.{Line}
 use Rattle.sk_law.specs.declared.tally.Tally.{Tally}
 use Rattle.sk_law.specs.Tallies.{tally_of}
-use Rattle.sk_law.specs.Tied.{Tied, no_line, known_of, numbered, own_among, with_required, limit_in}
+use Rattle.sk_law.specs.Counted.{are_calls, calls_made}
+use Rattle.sk_law.specs.Services.{new_state_of, new_states}
+use Rattle.sk_law.specs.Tied.{Tied, Served, no_line, known_of, numbered, own_among, with_required, limit_in}
+use Rattle.sk_law.proofs.Serving.{are_at, calls_at}
 use Rattle.sk_law.proofs.Ties.{a_line, not_same, changed_at}
 use Rattle.sk_law.proofs.Hearing.{known-required}
 
@@ -87,3 +95,44 @@ tied-new S tally lines out view awaited own few sized duration counts line outs 
     need : (o : Option (List (List ℕ))) → (with_required (option_map (numbered S.names) o) first).required ≡ option_map (numbered S.names) o
     need None = refl
     need (Some names) = refl
+
+-- ## The own services
+
+calls-new : (services : List Service) (s : ℕ) → calls_at (new_states services) s ≡ 0
+calls-new [] s = refl
+calls-new (x ∷ services) zero = on x.kind
+  where
+    on : (kind : ServiceKind) → calls_made (new_state_of x kind) ≡ 0
+    on kinds.Can = refl
+    on kinds.Ethernet = refl
+    on kinds.Lin = refl
+    on kinds.Publisher = refl
+    on kinds.Subscriber = refl
+    on kinds.Server = refl
+    on kinds.Client = refl
+calls-new (x ∷ services) (suc s) = calls-new services s
+
+are-new : (services : List Service) (s : ℕ) → are_at (new_states services) s ≡ true
+are-new [] s = refl
+are-new (x ∷ services) zero = on x.kind
+  where
+    on : (kind : ServiceKind) → are_calls (new_state_of x kind) ≡ true
+    on kinds.Can = refl
+    on kinds.Ethernet = refl
+    on kinds.Lin = refl
+    on kinds.Publisher = refl
+    on kinds.Subscriber = refl
+    on kinds.Server = refl
+    on kinds.Client = refl
+are-new (x ∷ services) (suc s) = are-new services s
+
+pub served-new : (S : Setup) (services : List ServiceState) (index : Announcing) → index ≡ nothing_announced S.services → services ≡ new_states S.services →
+    Served S [] services [] index
+served-new S services index indexed new =
+    record {
+      own_is = ap (λ (a : Announcing). a.own) indexed;
+      announced = λ p. ap (λ (a : Announcing). announced_by a p) indexed;
+      called = λ s. ap (λ xs. are_at xs s) new ∙ are-new S.services s;
+      counted = λ s. subst (λ n. n ≤ 0) (sym (ap (λ xs. calls_at xs s) new ∙ calls-new S.services s)) (omega arith);
+      marked = tt;
+    }

@@ -142,7 +142,7 @@ taken-step S tools s (Stray k) = refl
 taken-step S tools s (Did i c m) = refl
 taken-step S tools s (Fault k) = refl
 
-taken-add : (S : Setup) (tools : List (List ℕ)) (es : List Entry) (e : Entry) → taken_in S tools (es ++ e ∷ []) ≡ taken_by (orderly S tools (seen_in S tools es) e) e (taken_in S tools es)
+pub taken-add : (S : Setup) (tools : List (List ℕ)) (es : List Entry) (e : Entry) → taken_in S tools (es ++ e ∷ []) ≡ taken_by (orderly S tools (seen_in S tools es) e) e (taken_in S tools es)
 taken-add S tools es e = ap (λ (s : Seen). s.taken) (seen-add S tools es e) ∙ taken-step S tools (seen_in S tools es) e
 
 -- ## Other numbers

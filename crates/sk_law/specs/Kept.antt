@@ -20,3 +20,9 @@ pub record IsCut (old new : Kept) (all : Past) : Type 0 where
   pub out : new.out ≡ old.out
   pub grows : IsPrefix old.past.journal new.past.journal
   pub front : IsPrefix new.past.journal all.journal
+
+-- no entry was added and nothing was taken out; what is remembered may have changed
+pub record AddsNothing (old new : Kept) : Type 0 where
+  pub setup : new.setup ≡ old.setup
+  pub out : new.out ≡ old.out
+  pub entries : new.past.journal ≡ old.past.journal

@@ -23,3 +23,5 @@ pub mod Tied
 pub mod Tallies
 pub mod Questions
 pub mod Coming
+pub mod Counted
+pub mod Serving

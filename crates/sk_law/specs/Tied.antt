@@ -10,9 +10,13 @@ use Rattle.sk_msg.specs.declared.entry.Entry.TheVariants.{Got, Put, Hand, Begin,
 use Rattle.sk_msg.specs.declared.state.State.{State}
 use Rattle.sk_msg.specs.declared.state.State.TheVariants.{Invalid}
 use Rattle.sk_msg.specs.Rules.{is_step_size}
+use Rattle.sk_pubsub.specs.Announcing.{Announcing, announced_by}
 use Rattle.sk_system.specs.View.{View}
 use Rattle.sk_law.specs.declared.setup.Setup.{Setup}
-use Rattle.sk_law.specs.Order.{said_of, said_after, is_coordinated, untils_of, status_of}
+use Rattle.sk_law.specs.declared.memory.ServiceState.{ServiceState}
+use Rattle.sk_law.specs.declared.memory.ServiceState.TheVariants as states
+use Rattle.sk_law.specs.Counted.{are_calls, calls_made}
+use Rattle.sk_law.specs.Order.{said_of, said_after, is_coordinated, untils_of, status_of, services_of}
 use Rattle.sk_law.specs.Readings.{last_begun, open_step, state_of, is_gone, got, put}
 use Rattle.sk_law.specs.Links.{Seen, Taken, unseen, seen_after, of_peer, is_peer, peers, required_by, workflow_in, own_name}
 use Rattle.sk_law.specs.declared.line.Line.{Line}
@@ -152,6 +156,21 @@ pub record Tied (S : Setup) (tools : List (List ℕ)) (out : List ℕ) (es : Lis
   pub required : view.required ≡ option_map (numbered S.names) (required_by S (taken_in S tools es))
   pub awaited_is : awaited ≡ option_map (own_among S) (required_by S (taken_in S tools es))
   pub limit_is : limit ≡ limit_in S (taken_in S tools es)
+
+-- what is kept of the own services, and of those that the peers announced
+pub record Served (S : Setup) (tools : List (List ℕ)) (services : List ServiceState) (es : List Entry) (index : Announcing) : Type 0 where
+  pub own_is : index.own ≡ S.services
+  pub announced : (p : ℕ) → announced_by index p ≡ services_of (of_peer p (taken_in S tools es))
+  -- each action makes one call at most
+  pub counted : (s : ℕ) → calls_made (slice_index_or services s states.Subscriber) ≤ length es
+  -- each open call came in a message
+  pub called : (s : ℕ) → are_calls (slice_index_or services s states.Subscriber) ≡ true
+  pub marked : IfSome (open_step es) (λ step. step.number ≤ 2 ^ 63)
+
+-- all that a journal keeps beside its entries
+pub record AllTied (S : Setup) (tools : List (List ℕ)) (services : List ServiceState) (out : List ℕ) (es : List Entry) (tally : Tally) (lines : List Line) (index : Announcing) (view : View) (awaited : Option Bool) (limit : ℕ) : Type 0 where
+  pub tied : Tied S tools out es tally lines view awaited limit
+  pub served : Served S tools services es index
 
 -- an entry on which no counter hangs
 abbrev pub IsPlain : Entry → Type 0

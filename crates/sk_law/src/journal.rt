@@ -2,15 +2,18 @@
 
 ghost use Rattle.std.specs.Prelude.{◌≡◌, ℕ, ◌+◌, ◌<◌, ◌≤◌, ◌^◌, Some, None, slice_set, false, [], IsTrue, IfOk, IfSome, length, replicate, slice_index_or, nat_le};
 ghost use Rattle.sk_msg.specs.Each.{each_after};
+ghost use Rattle.sk_pubsub.specs.Announcing.{are_numbered};
 ghost use Rattle.sk_msg.specs.Rules.{is_new_name, is_step_size};
 ghost use Rattle.sk_msg.specs.declared.state.State.TheVariants.{Invalid};
 ghost use Rattle.sk_law.specs.Readings.{state_of, system_told, has_run, last_begun, open_step, next_number, has_completed_ready, payload, put};
+ghost use Rattle.sk_law.specs.Services.{new_states};
 ghost use Rattle.sk_law.specs.Tied.{all_of};
 
 mod got;
 mod links;
 mod needed;
 mod out;
+mod services;
 mod writing;
 
 use crate::journal::needed::{find_needed, require};
@@ -19,6 +22,7 @@ use crate::tally::Tally;
 use crate::{Begun, Memory, ServiceStates, Setup};
 use sk_base::{SimTime, WantOfMemory};
 use sk_msg::{Entry, Names, State};
+use sk_pubsub::Receivers;
 use sk_system::SystemView;
 use std::alloc::Global;
 use std::marker::Model;
@@ -37,6 +41,8 @@ pub struct Journal {
     memory: Memory,
     tally: Tally,
     lines: Vec<Line>,
+    /// The own services, and which of them match what each peer announced.
+    index: Receivers,
     out: Vec<usize>,
     view: SystemView,
     /// Whether the own name is among those required, once they are known.
@@ -47,36 +53,37 @@ pub struct Journal {
 
 impl Model for Journal {
     ghost use Rattle.sk_law.specs.Kept.{Kept};
-    ghost use Rattle.sk_law.specs.Tied.{Tied};
+    ghost use Rattle.sk_law.specs.Tied.{AllTied};
 
     ghost Value = { Kept };
 
     ghost view = { λ j. record { setup = j.setup; past = record { journal = j.entries.items; memory = j.memory }; out = j.out.items } };
 
-    ghost invariant = { λ j. Tied j.setup j.memory.tools j.out.items j.entries.items j.tally j.lines.items j.view j.awaited j.limit };
+    ghost invariant = { λ j. AllTied j.setup j.memory.tools j.memory.services j.out.items j.entries.items j.tally j.lines.items j.index j.view j.awaited j.limit };
 }
 
 impl Journal {
-    /// With no entry. What it keeps later is kept in this memory.
-    pub fn new(
-        alloc: Global,
-        setup: Setup,
-        services: ServiceStates,
-    ) -> Result<Journal, WantOfMemory>
+    /// With no entry, and each own service as it is at first. What it keeps later is kept in this
+    /// memory.
+    pub fn new(alloc: Global, setup: Setup) -> Result<Journal, WantOfMemory>
         requires own { setup.number < length setup.names }
         requires few { length setup.names ≤ 32 }
         requires size { IfSome setup.step (λ size. IsTrue (is_step_size size)) }
         requires distinct { IfSome setup.required (λ names. IsTrue (each_after is_new_name [] names)) }
         requires names { IsTrue (each_after is_new_name [] setup.names) }
         requires duration { setup.duration ≤ 2 ^ 61 }
+        requires services { length setup.services ≤ 64 }
+        requires numbered { IsTrue (are_numbered 0 setup.services) }
         ensures setup { IfOk result (λ journal. journal.setup ≡ setup) }
         ensures journal { IfOk result (λ journal. journal.past.journal ≡ []) }
-        ensures memory { IfOk result (λ journal. journal.past.memory ≡ record { called = false; asked = false; pause = None; tools = []; services = services; ready_awaited = false }) }
+        ensures memory { IfOk result (λ journal. journal.past.memory ≡ record { called = false; asked = false; pause = None; tools = []; services = new_states setup.services; ready_awaited = false }) }
         ensures out { IfOk result (λ journal. journal.out ≡ replicate (length setup.names) 0) }
     {
+        let services = ServiceStates::at_first(alloc, setup.services.as_slice())?;
         let count = setup.names.as_slice().len();
         let lines = new_lines(alloc, count)?;
         let out = zeros(alloc, count)?;
+        let own = setup.services.copy(alloc)?;
         let mut view = first_view(alloc, setup.number, count)?;
         let required = find_needed(alloc, &setup, setup.required.as_ref())?;
         let awaited = require(&mut view, required);
@@ -95,6 +102,7 @@ impl Journal {
             },
             tally: Tally::start(),
             lines,
+            index: Receivers::new(alloc, own.into_vec()),
             out,
             view,
             awaited,
@@ -188,13 +196,15 @@ impl Journal {
     pub fn open_step(&self) -> Option<Begun>
         ensures value { result ≡ open_step self.now.past.journal }
         ensures early { IfSome result (λ step. step.time ≤ 2 ^ 61) }
+        ensures marked { IfSome result (λ step. step.number ≤ 2 ^ 63) }
     {
         self.tally.step
     }
 
     /// The number of the next step.
     pub fn next_number(&self) -> u64
-        ensures { result ≡ next_number self.now.past.journal }
+        ensures value { result ≡ next_number self.now.past.journal }
+        ensures small { result ≤ 2 ^ 63 }
     {
         self.tally.next
     }

@@ -1,11 +1,13 @@
 //! What is kept of each peer and tool.
 
 ghost use Rattle.std.specs.Prelude.{◌≡◌, ◌==◌, ◌<◌, ◌+◌, ◌^◌, [], ◌∷◌, ◌++◌, true, false, length, slice_set, slice_index_or, IfSome, IfNone, IfOk, replicate, OnOk, OnErr};
+ghost use Rattle.sk_law.specs.Serving.{IsNext, IsIndexed};
 ghost use Rattle.sk_law.specs.Tied.{queued, no_line, heard_line, heard_lines};
 
 use crate::Said;
 use sk_base::WantOfMemory;
 use sk_msg::Message;
+use sk_pubsub::Receivers;
 use std::alloc::Global;
 use std::collections::VecDeque;
 use std::marker::Model;
@@ -87,19 +89,24 @@ impl Line {
         }
     }
 
-    /// One message more was got of it, which came in order or not.
+    /// One message more was got of this number, whose line it is; it came in order or not.
     pub fn hear(
         &mut self,
         alloc: Global,
+        index: &mut Receivers,
+        number: u32,
         orderly: bool,
         message: &Message,
     ) -> Result<(), WantOfMemory>
-        requires { self.old.got < 2 ^ 63 }
+        requires few { self.old.got < 2 ^ 63 }
+        requires next { orderly ≡ true → IsNext index.old number message.now }
         ensures ok { OnOk result (self.new ≡ heard_line orderly message.now self.old) }
+        ensures indexed { OnOk result (IsIndexed orderly number message.now index.old index.new) }
         ensures err { OnErr result (self.new ≡ self.old) }
+        ensures index { OnErr result (index.new ≡ index.old) }
     {
         if orderly {
-            self.said.note(alloc, message)?;
+            self.said.note(alloc, index, number, message)?;
         }
         self.got += 1;
         Ok(())
@@ -140,14 +147,18 @@ pub fn let_wait(lines: &mut Vec<Line>, number: u32, message: Message) -> Result<
 pub fn hear(
     alloc: Global,
     lines: &mut Vec<Line>,
+    index: &mut Receivers,
     number: u32,
     orderly: bool,
     message: &Message,
 ) -> Result<(), WantOfMemory>
     requires within { number < length lines.old.items }
     requires few { (slice_index_or lines.old.items number no_line).got < 2 ^ 63 }
+    requires next { orderly ≡ true → IsNext index.old number message.now }
     ensures ok { OnOk result (lines.new.items ≡ heard_lines orderly number message.now lines.old.items) }
+    ensures indexed { OnOk result (IsIndexed orderly number message.now index.old index.new) }
     ensures err { OnErr result (lines.new.items ≡ lines.old.items) }
+    ensures index { OnErr result (index.new ≡ index.old) }
 {
-    lines[number as usize].hear(alloc, orderly, message)
+    lines[number as usize].hear(alloc, index, number, orderly, message)
 }

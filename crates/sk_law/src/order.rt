@@ -252,7 +252,7 @@ fn has_status(state: State, told: Option<State>) -> bool
 
 /// Whether both are one state.
 #[tactic(auto, unfolding(sk_msg::specs::States::is_state))]
-fn is_state(one: State, other: State) -> bool
+pub fn is_state(one: State, other: State) -> bool
     ensures { result ≡ is_state one other }
 {
     one.number() == other.number()

@@ -1,11 +1,13 @@
 //! What a peer or a tool has said.
 
-ghost use Rattle.std.specs.Prelude.{◌≡◌, [], OnOk, OnErr};
+ghost use Rattle.std.specs.Prelude.{◌≡◌, [], true, OnOk, OnErr};
 ghost use Rattle.sk_law.specs.Order.{said_of, said_after};
+ghost use Rattle.sk_law.specs.Serving.{IsNext, IsIndexed};
 
 use crate::services::Services;
 use sk_base::{SimTime, WantOfMemory};
 use sk_msg::{Content, Message, State};
+use sk_pubsub::Receivers;
 use std::alloc::Global;
 
 /// What a peer or a tool has said in order: all that its next message is judged by.
@@ -46,10 +48,20 @@ impl Said {
         }
     }
 
-    /// A message more that came in order.
-    pub fn note(&mut self, alloc: Global, message: &Message) -> Result<(), WantOfMemory>
+    /// A message more that came in order of this number. A service that it tells goes into the index
+    /// too.
+    pub fn note(
+        &mut self,
+        alloc: Global,
+        index: &mut Receivers,
+        number: u32,
+        message: &Message,
+    ) -> Result<(), WantOfMemory>
+        requires { IsNext index.old number message.now }
         ensures ok { OnOk result (self.new ≡ said_after self.old message.now) }
+        ensures indexed { OnOk result (IsIndexed true number message.now index.old index.new) }
         ensures same { OnErr result (self.new ≡ self.old) }
+        ensures index { OnErr result (index.new ≡ index.old) }
     {
         match message.content() {
             Content::Hello { role, .. } => {
@@ -59,8 +71,10 @@ impl Said {
                 Ok(())
             }
             Content::ServiceAdd { service } => {
-                self.services.push(service.service().copy(alloc)?)?;
-                Ok(())
+                let service = service.service();
+                let copy = service.copy(alloc)?;
+                self.services
+                    .announce(index, number, service.copy(alloc)?, copy)
             }
             Content::ServicesEnd => {
                 self.ended = true;

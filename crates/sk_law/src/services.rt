@@ -1,9 +1,11 @@
 //! Services in order.
 
-ghost use Rattle.std.specs.Prelude.{◌≡◌, [], ◌∷◌, ◌++◌, IfOk, OnOk, OnErr};
+ghost use Rattle.std.specs.Prelude.{◌≡◌, [], ◌∷◌, ◌++◌, None, IfOk, OnOk, OnErr};
+ghost use Rattle.sk_pubsub.specs.Announcing.{announced_by, refusal, IsAdded};
 
 use sk_base::WantOfMemory;
 use sk_msg::Service;
+use sk_pubsub::{AddRefused, Receivers};
 use std::alloc::Global;
 use std::marker::Model;
 
@@ -37,12 +39,30 @@ impl Services {
         self.services.as_slice()
     }
 
-    /// One service more, behind the others.
-    pub fn push(&mut self, service: Service) -> Result<(), WantOfMemory>
-        ensures ok { OnOk result (self.new ≡ self.old ++ service ∷ []) }
-        ensures same { OnErr result (self.new ≡ self.old) }
+    /// The services by themselves.
+    pub fn into_vec(self) -> Vec<Service>
+        ensures { result.items ≡ self }
     {
-        self.services.push(service)?;
+        self.services
+    }
+
+    /// One service more, behind the others, which this peer announces: the copy goes into the index.
+    pub(crate) fn announce(
+        &mut self,
+        index: &mut Receivers,
+        peer: u32,
+        service: Service,
+        copy: Service,
+    ) -> Result<(), WantOfMemory>
+        requires { refusal (announced_by index.old peer) copy ≡ None }
+        ensures ok { OnOk result (self.new ≡ self.old ++ service ∷ []) }
+        ensures added { OnOk result (IsAdded peer copy index.old index.new) }
+        ensures same { OnErr result (self.new ≡ self.old) }
+        ensures index { OnErr result (index.new ≡ index.old) }
+    {
+        self.services.reserve(1)?;
+        add(index, peer, copy)?;
+        self.services.push(service).unwrap();
         Ok(())
     }
 
@@ -53,6 +73,20 @@ impl Services {
         Ok(Services {
             services: copy_services(alloc, &self.services)?,
         })
+    }
+}
+
+/// The peer announces this service, which is its next one.
+fn add(index: &mut Receivers, peer: u32, service: Service) -> Result<(), WantOfMemory>
+    requires { refusal (announced_by index.old peer) service ≡ None }
+    ensures ok { OnOk result (IsAdded peer service index.old index.new) }
+    ensures same { OnErr result (index.new ≡ index.old) }
+{
+    match index.add(peer, service) {
+        Ok(()) => Ok(()),
+        Err(AddRefused::WantOfMemory) => Err(WantOfMemory),
+        Err(AddRefused::Full) => unreachable!(),
+        Err(AddRefused::OutOfOrder(_)) => unreachable!(),
     }
 }
 

@@ -19,14 +19,12 @@ use Rattle.sk_law.specs.Blocks.{answer, answers, answered, called, callback, ove
 use Rattle.sk_law.specs.Growing.{Adds, BlocksAdd, GoesByEntries}
 use Rattle.sk_law.specs.Outbox.{Outbox, are_filled}
 use Rattle.sk_law.specs.Past.{Past, add}
-use Rattle.sk_law.specs.Receivers.{received}
+use Rattle.sk_law.specs.Receivers.{receive}
 use Rattle.sk_law.specs.Told.{heard, message_at, notices}
-use Rattle.sk_node.specs.Bare.{IsBare}
 use Rattle.sk_node.specs.Calls.{item, Calls, CallsCut}
 use Rattle.sk_law.specs.Kept.{Kept, IsCut, grown}
 use Rattle.sk_node.specs.Lists.{Lists, Tells, TellsCut, Whole, Part}
-use Rattle.sk_node.proofs.Bareness.{unchanged}
-use Rattle.sk_node.proofs.Cuts.{both_stand, cut_at, cut_is, cut_none, cut_then, prefix_same}
+use Rattle.sk_node.proofs.Cuts.{adds_one, both_stand, cut_at, cut_is, cut_none, cut_then, prefix_same}
 use Rattle.sk_node.proofs.Telling.{cut_of_tells, quiet_none, tells_both, tells_quiet, tells_then}
 use Rattle.sk_node.proofs.Wholes.{part_first, part_is, part_then, whole_is, whole_then}
 
@@ -73,7 +71,7 @@ unfolding are_filled
 none_filled = refl
 
 -- the call that isn't made
-abbrev unasked : Call → Made
+abbrev pub unasked : Call → Made
 unasked call = item call (record { actions = []; over = false })
 
 -- what stands is at most what shows the call
@@ -247,14 +245,40 @@ tells_begin goes old new number at e = subst (λ (x : Kept). TellsOne old.past.j
   one = omega arith;
 })
 
-pub tells_hand : (goes : GoesByEntries) (old new : Kept) (p k r : ℕ) (m : Content) → message_at old.past.journal p k ≡ Some m → new ≡ grown (add (Hand p k r) old.past) old →
+pub tells_hand : (goes : GoesByEntries) (old new : Kept) (p k r : ℕ) (m : Content) → message_at old.past.journal p k ≡ Some m → new.past.journal ≡ old.past.journal ++ Hand p k r ∷ [] →
     TellsOne old.past.journal new.past.journal (hearings.Message p k r m ∷ [])
-tells_hand goes old new p k r m there e = subst (λ (x : Kept). TellsOne old.past.journal x.past.journal (hearings.Message p k r m ∷ [])) (sym e) (record {
+tells_hand goes old new p k r m there e = subst (λ es. TellsOne old.past.journal es (hearings.Message p k r m ∷ [])) (sym e) (record {
   heard_in = goes.heard_is old.past.journal (Hand p k r) ∙ ap (λ o. heard old.past.journal ++ option_to_list (option_map (λ x. hearings.Message p k r x) o)) there;
   notices_is = goes.notices_is old.past.journal (Hand p k r) ∙ append-nil (notices old.past.journal);
   one = omega arith;
 })
 
--- no service changes by it
-pub handed_is : (old new : Kept) (p k r : ℕ) (m : Content) → IsBare old → new ≡ grown (add (Hand p k r) old.past) old → new ≡ grown (called (calls.Message p k r m) old.past) old
-handed_is old new p k r m bare e = e ∙ ap (λ (q : Past). grown q old) (sym (unchanged (received p m) r (add (Hand p k r) old.past) bare.states))
+-- the service took it in
+pub handed_is : (old shown new : Kept) (p k r : ℕ) (m : Content) → shown ≡ grown (add (Hand p k r) old.past) old → new ≡ grown (receive p m r shown.past) shown → new ≡ grown (called (calls.Message p k r m) old.past) old
+handed_is old shown new p k r m e f = f ∙ ap (λ (x : Kept). grown (receive p m r x.past) x) e
+
+-- it didn't, and the app wasn't called
+pub cut_receiving : (goes : GoesByEntries) (adds : BlocksAdd) (old new : Kept) (p k r : ℕ) (m : Content) (was : Lists) → message_at old.past.journal p k ≡ Some m → new ≡ grown (add (Hand p k r) old.past) old →
+    CallsCut old new (calls.Message p k r m) was was
+cut_receiving goes adds old new p k r m was there e = record {
+  one = unasked call;
+  call_is = refl;
+  filled = none_filled;
+  made = [];
+  others = unasked call ∷ [];
+  idle = refl;
+  both = refl;
+  uncalled = front_of call old.past new.past.journal stands;
+  calls = sym (append-nil was.made);
+  cut = cut_at e (adds_one (Hand p k r) old.past) (record { front = all.front });
+  told = untold old.past.journal new.past.journal (hearings.Message p k r m ∷ []) was (tells_hand goes old new p k r m there (ap (λ (x : Kept). x.past.journal) e));
+}
+  where
+    call : Call
+    call = calls.Message p k r m
+
+    stands : IsPrefix new.past.journal (called call old.past).journal
+    stands = subst (λ (x : Kept). IsPrefix x.past.journal (called call old.past).journal) (sym e) (prefix_same (called call old.past).journal)
+
+    all : Adds (called call old.past) (callback old.setup old.past (unasked call))
+    all = subst (λ x. Adds (called call old.past) x) (sym (callback_is old.setup old.past call (record { actions = []; over = false }))) (adds.answers_call old.setup [] false (called call old.past))

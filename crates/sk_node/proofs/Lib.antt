@@ -1,3 +1,12 @@
+pub mod Acting
+pub mod OpenCalls
+pub mod Sending
+pub mod CanLaws
+pub mod Choosing
+pub mod DataLaws
+pub mod EthLaws
+pub mod OtherKinds
+pub mod LinLaws
 pub mod Cuts
 pub mod Telling
 pub mod Wholes
@@ -6,10 +15,9 @@ pub mod Judging
 pub mod Entering
 pub mod Obeying
 pub mod Deciding
-pub mod Bareness
 pub mod Calling
+pub mod Handing
 pub mod Receiving
-pub mod Refusing
 pub mod Stepping
 pub mod Answering
 pub mod Getting

@@ -18,7 +18,6 @@ use Rattle.sk_law.specs.Bounded.{IsBounded, PutsBounded}
 use Rattle.sk_law.specs.Ends.{left, TurnsEnd, LimitsHold}
 use Rattle.sk_law.specs.Growing.{Adds, BlocksAdd}
 use Rattle.sk_law.specs.Lawful.{Happens, Lawful, goes_on, note_asked, gets, loses, completes, asks, adds, moves, readies, begins, counts, gives_up}
-use Rattle.sk_node.specs.Bare.{IsBare}
 use Rattle.sk_law.specs.Kept.{Kept, IsCut}
 use Rattle.sk_node.specs.Known.{Known, Keeps, Serves, Stops, IsSound}
 use Rattle.sk_node.specs.Lists.{Lists, Whole, Part}
@@ -27,9 +26,7 @@ use Rattle.sk_node.specs.Turning.{IsEnded, RowCut, Turns, IsTurned}
 use Rattle.sk_node.specs.declared.rows.Turned.{Turned}
 use Rattle.sk_node.specs.declared.rows.Turned.TheVariants.{Entries, Counted, Quiet, Finished}
 use Rattle.sk_node.proofs.Answering.{adds_length, ended}
-use Rattle.sk_node.proofs.Bareness.{bare_went}
 use Rattle.sk_node.proofs.Cuts.{adds_same, adds_both}
-use Rattle.sk_node.proofs.Receiving.{no_receivers}
 use Rattle.sk_node.proofs.Rowing.{cut_of}
 
 -- ## What happens only adds
@@ -94,37 +91,36 @@ stops old new h poisoned = record {
 pub went_whole : {old new : Kept} {all : Past} {was now : Lists} → Happens old.setup old.past [] all → Whole old new (judge_limits old.setup all) was now → Went old new was now
 went_whole {old} {new} {all} {was} {now} happens h = record { made = []; calls = h.made ∙ sym (append-nil was.made); past = all; happens = happens; whole = h.past; told = h.told }
 
--- where there are no services nobody is called with a message
-pub gets_one : (S : Setup) (past : Past) (p : ℕ) (m : Content) → S.services ≡ [] → IsTrue (is_open S past p) → Happens S past [] (get S p m [] past)
-gets_one S past p m e o = gets p m [] o (sym (ap (map (λ r. calls.Message p (length (got past.journal p) + 1) r m)) (no_receivers S past p m e))) refl
-
 -- ## What holds at every moment
 
 -- what was put stays bounded
-bounded_went : PutsBounded → (old new : Kept) {was now : Lists} → Went old new was now → IsBare old → IsBounded old.past → IsBounded new.past
-bounded_went puts old new h bare bounded = subst (λ (p : Past). IsBounded p) (past_of h) (puts.goes old.setup old.past h.past h.made bare.services bounded h.happens)
+bounded_went : PutsBounded → (old new : Kept) {was now : Lists} → Went old new was now → old.setup.services ≡ [] → IsBounded old.past → IsBounded new.past
+bounded_went puts old new h none bounded = subst (λ (p : Past). IsBounded p) (past_of h) (puts.goes old.setup old.past h.past h.made none bounded h.happens)
 
-pub sound_went : LimitsHold → PutsBounded → (old new : Kept) {was now : Lists} → Went old new was now → IsBare old → IsBounded old.past → length new.out ≡ length new.setup.names + length new.past.memory.tools →
+same_services : {old new : Kept} {was now : Lists} → Went old new was now → new.setup.services ≡ [] → old.setup.services ≡ []
+same_services h e = sym (ap (λ (k : Kept). k.setup.services) h.whole) ∙ e
+
+pub sound_went : LimitsHold → PutsBounded → (old new : Kept) {was now : Lists} → Went old new was now → (old.setup.services ≡ [] → IsBounded old.past) → length new.out ≡ length new.setup.names + length new.past.memory.tools →
     ((p : ℕ) → slice_index_or new.out p 0 ≤ length (put new.past.journal p)) → IsSound (record { kept = new; poisoned = false })
-sound_went law puts old new {was} {now} h bare bounded all within = record {
+sound_went law puts old new {was} {now} h bounded all within = record {
   all = all;
   within = within;
-  few = λ p. puts.holds new.past p (bounded_went puts old new h bare bounded);
-  bounded = λ e. bounded_went puts old new h bare bounded;
-  bare = λ e. bare_went old new was now h bare;
+  few = λ none p. puts.holds new.past p (bounded_went puts old new h (same_services h none) (bounded (same_services h none)));
+  bounded = λ none e. bounded_went puts old new h (same_services h none) (bounded (same_services h none));
   short = λ e. subst (λ (p : Past). has_edge (state_of p.journal) Error ≡ true → length p.journal < 500000) (past_of h) (law.entries old.setup h.past);
   light = λ e. subst (λ (p : Past). has_edge (state_of p.journal) Error ≡ true → payload p.journal < 33554432) (past_of h) (law.bytes old.setup h.past);
 }
 
 -- of one to which memory was refused a front stands
-pub sound_stopped : PutsBounded → (old k : Kept) {was now : Lists} → WentCut old k was now → IsBare old → IsBounded old.past → length k.out ≡ length k.setup.names + length k.past.memory.tools → ((p : ℕ) → slice_index_or k.out p 0 ≤ length (put k.past.journal p)) →
+pub sound_stopped : PutsBounded → (old k : Kept) {was now : Lists} → WentCut old k was now → (old.setup.services ≡ [] → IsBounded old.past) → length k.out ≡ length k.setup.names + length k.past.memory.tools → ((p : ℕ) → slice_index_or k.out p 0 ≤ length (put k.past.journal p)) →
     IsSound (record { kept = k; poisoned = true })
-sound_stopped puts old k h bare bounded all within = record {
+sound_stopped puts old k h bounded all within = record {
   all = all;
   within = within;
-  few = λ p. puts.cuts (judge_limits old.setup h.past) k.past.journal p (puts.goes old.setup old.past h.past (h.made ++ h.others) bare.services bounded h.happens) h.cut.front;
-  bounded = λ e. absurd cc;
-  bare = λ e. absurd cc;
+  few = λ none p.
+      let bare : old.setup.services ≡ [] = sym (ap (λ (S : Setup). S.services) h.cut.setup) ∙ none in
+      puts.cuts (judge_limits old.setup h.past) k.past.journal p (puts.goes old.setup old.past h.past (h.made ++ h.others) bare (bounded bare) h.happens) h.cut.front;
+  bounded = λ none e. absurd cc;
   short = λ e. absurd cc;
   light = λ e. absurd cc;
 }
@@ -134,9 +130,9 @@ sound_stopped puts old k h bare bounded all within = record {
 abbrev pub known : Kept → Bool → Known
 known k b = record { kept = k; poisoned = b }
 
-pub sound_in : LimitsHold → PutsBounded → (k new : Kept) (b : Bool) {was now : Lists} → b ≡ false → IsBare k → IsBounded k.past → Went k new was now → length new.out ≡ length new.setup.names + length new.past.memory.tools →
+pub sound_in : LimitsHold → PutsBounded → (k new : Kept) (b : Bool) {was now : Lists} → b ≡ false → (k.setup.services ≡ [] → IsBounded k.past) → Went k new was now → length new.out ≡ length new.setup.names + length new.past.memory.tools →
     ((p : ℕ) → slice_index_or new.out p 0 ≤ length (put new.past.journal p)) → IsSound (record { kept = new; poisoned = b })
-sound_in law puts k new b f bare bounded h all within = subst (λ x. IsSound (record { kept = new; poisoned = x })) (sym f) (sound_went law puts k new h bare bounded all within)
+sound_in law puts k new b f bounded h all within = subst (λ x. IsSound (record { kept = new; poisoned = x })) (sym f) (sound_went law puts k new h bounded all within)
 
 pub serves_in : BlocksAdd → TurnsEnd → (old : Known) (k new : Kept) (b : Bool) {was now : Lists} → known k b ≡ old → b ≡ false → Went k new was now →
     Serves old (record { kept = new; poisoned = b }) was now
@@ -177,12 +173,14 @@ pub sound_out : (k new : Kept) (b : Bool) → new.setup ≡ k.setup → new.past
 sound_out k new b s e sound all within = record {
   all = all;
   within = within;
-  few = λ p. subst (λ (x : Past). length (put x.journal p) ≤ 501000) (sym e) (sound.few p);
-  bare = λ f. record { services = ap (λ (x : Setup). x.services) s ∙ (sound.bare f).services; states = ap (λ (x : Past). x.memory.services) e ∙ (sound.bare f).states };
-  bounded = λ f. subst (λ (x : Past). IsBounded x) (sym e) (sound.bounded f);
+  few = λ none p. subst (λ (x : Past). length (put x.journal p) ≤ 501000) (sym e) (sound.few (bare none) p);
+  bounded = λ none f. subst (λ (x : Past). IsBounded x) (sym e) (sound.bounded (bare none) f);
   short = λ f. subst (λ (x : Past). has_edge (state_of x.journal) Error ≡ true → length x.journal < 500000) (sym e) (sound.short f);
   light = λ f. subst (λ (x : Past). has_edge (state_of x.journal) Error ≡ true → payload x.journal < 33554432) (sym e) (sound.light f);
 }
+  where
+    bare : new.setup.services ≡ [] → k.setup.services ≡ []
+    bare none = sym (ap (λ (x : Setup). x.services) s) ∙ none
 
 -- ## A turn
 
@@ -197,8 +195,8 @@ turned_in law ends turned old k new b was now e f h = subst (λ o. IsTurned turn
 
 pub sound_turned : LimitsHold → PutsBounded → (turned : Turned) (k new : Kept) (b : Bool) (was now : Lists) → b ≡ false → IsSound (known k b) → Turns turned k new was now →
     length new.out ≡ length new.setup.names + length new.past.memory.tools → ((p : ℕ) → slice_index_or new.out p 0 ≤ length (put new.past.journal p)) → IsSound (known new b)
-sound_turned law puts (Entries n) k new b was now f sound h all within = sound_in law puts k new b f (sound.bare f) (sound.bounded f) h.row.went all within
-sound_turned law puts Counted k new b was now f sound h all within = sound_in law puts k new b f (sound.bare f) (sound.bounded f) h.row.went all within
+sound_turned law puts (Entries n) k new b was now f sound h all within = sound_in law puts k new b f (λ none. sound.bounded none f) h.row.went all within
+sound_turned law puts Counted k new b was now f sound h all within = sound_in law puts k new b f (λ none. sound.bounded none f) h.row.went all within
 sound_turned law puts Quiet k new b was now f sound h all within = subst (λ x. IsSound (known x b)) (sym h.same) sound
 sound_turned law puts Finished k new b was now f sound h all within = subst (λ x. IsSound (known x b)) (sym h.same) sound
 

@@ -1,4 +1,4 @@
-pub mod Bare
+pub mod Acting
 pub mod Calls
 pub mod Known
 pub mod Lists
@@ -6,6 +6,7 @@ pub mod Making
 pub mod Notified
 pub mod Peers
 pub mod Purposes
+pub mod Takes
 pub mod Turning
 pub mod Verdicts
 pub mod Went

@@ -1,20 +1,19 @@
 -- What is put when a participant is made.
-use Rattle.std.specs.Prelude.{ℕ, List, [], ◌∷◌, ◌++◌}
+use Rattle.std.specs.Prelude.{ℕ, List, ◌++◌, map}
 use Rattle.std.specs.List.{flat_map}
 use Rattle.sk_msg.specs.declared.content.Content.{Content}
-use Rattle.sk_msg.specs.declared.content.Content.TheVariants.{ServicesEnd}
 use Rattle.sk_msg.specs.declared.entry.Entry.{Entry}
 use Rattle.sk_msg.specs.declared.entry.Entry.TheVariants.{Put}
 use Rattle.sk_law.specs.Past.{Past}
 
--- this Hello and ServicesEnd, to one
-abbrev pub greeting : Content → ℕ → List Entry
-greeting hello p = Put p hello ∷ Put p ServicesEnd ∷ []
+-- these messages, to one
+abbrev pub greeting : List Content → ℕ → List Entry
+greeting messages p = map (λ m. Put p m) messages
 
 -- to each of these
-abbrev pub introduced : Content → List ℕ → Past → Past
-introduced hello peers past = record past { journal = past.journal ++ flat_map (greeting hello) peers }
+abbrev pub introduced : List Content → List ℕ → Past → Past
+introduced messages peers past = record past { journal = past.journal ++ flat_map (greeting messages) peers }
 
 -- the one of them
-abbrev pub greeted : Content → ℕ → Past → Past
-greeted hello p past = record past { journal = past.journal ++ greeting hello p }
+abbrev pub greeted : List Content → ℕ → Past → Past
+greeted messages p past = record past { journal = past.journal ++ greeting messages p }

@@ -3,8 +3,7 @@
 ghost use Rattle.std.specs.Prelude.{◌≡◌, ◌≤◌, ◌^◌, Some, OnOk, OnErr};
 ghost use Rattle.sk_law.specs.declared.made.Call.TheVariants as calls;
 ghost use Rattle.sk_law.specs.Told.{message_at};
-ghost use Rattle.sk_node.specs.Bare.{IsBare};
-ghost use Rattle.sk_node.specs.Calls.{Calls, CallsCut};
+ghost use Rattle.sk_node.specs.Calls.{Calls, CallsCut, CallsAll, CallsAllCut, handings};
 
 use crate::actions::answer_all;
 use crate::app::App;
@@ -14,7 +13,6 @@ use sk_msg::{Entry, Message};
 
 /// The ready handler, and the answers to what it asks for.
 pub fn ready<A: App>(journal: &mut Journal, app: &mut A) -> Result<(), WantOfMemory>
-    requires bare { IsBare journal.old }
     ensures ok { OnOk result (Calls journal.old journal.new calls.Ready (A.lists app.old) (A.lists app.new)) }
     ensures err { OnErr result (CallsCut journal.old journal.new calls.Ready (A.lists app.old) (A.lists app.new)) }
     ensures origin { A.origin app.new ≡ A.origin app.old }
@@ -35,8 +33,8 @@ pub fn begin<A: App>(
     number: u64,
     at: SimTime,
 ) -> Result<(), WantOfMemory>
-    requires bare { IsBare journal.old }
     requires early { at ≤ 2 ^ 61 }
+    requires small { number ≤ 2 ^ 63 }
     ensures ok { OnOk result (Calls journal.old journal.new (calls.Step number at) (A.lists app.old) (A.lists app.new)) }
     ensures err { OnErr result (CallsCut journal.old journal.new (calls.Step number at) (A.lists app.old) (A.lists app.new)) }
     ensures origin { A.origin app.new ≡ A.origin app.old }
@@ -51,9 +49,9 @@ pub fn begin<A: App>(
     Ok(())
 }
 
-/// A message is handed to an own service: the handler is called, and what it asks for is answered.
-/// Nothing changes in the service, since a participant has none yet.
-pub fn hand<A: App>(
+/// A message is handed to an own service, which takes it in: the handler is called, and what it asks
+/// for is answered.
+fn hand<A: App>(
     journal: &mut Journal,
     app: &mut A,
     peer: u32,
@@ -61,7 +59,6 @@ pub fn hand<A: App>(
     service: u32,
     message: &Message,
 ) -> Result<(), WantOfMemory>
-    requires bare { IsBare journal.old }
     requires there { message_at journal.old.past.journal peer place ≡ Some message.now }
     ensures ok { OnOk result (Calls journal.old journal.new (calls.Message peer place service message.now) (A.lists app.old) (A.lists app.new)) }
     ensures err { OnErr result (CallsCut journal.old journal.new (calls.Message peer place service message.now) (A.lists app.old) (A.lists app.new)) }
@@ -75,8 +72,30 @@ pub fn hand<A: App>(
         place,
         service,
     })?;
+    journal.receive(peer, service, message)?;
     app.on_message(peer, place, service, message, &mut out)?;
     let _filled = out.actions();
     answer_all(journal, app, &out)?;
+    Ok(())
+}
+
+/// A message is handed to each of these own services, one after another.
+pub fn hand_all<A: App>(
+    journal: &mut Journal,
+    app: &mut A,
+    peer: u32,
+    place: u64,
+    services: &[u32],
+    message: &Message,
+) -> Result<(), WantOfMemory>
+    requires there { message_at journal.old.past.journal peer place ≡ Some message.now }
+    ensures ok { OnOk result (CallsAll journal.old journal.new (handings peer place message.now services.now) (A.lists app.old) (A.lists app.new)) }
+    ensures err { OnErr result (CallsAllCut journal.old journal.new (handings peer place message.now services.now) (A.lists app.old) (A.lists app.new)) }
+    ensures origin { A.origin app.new ≡ A.origin app.old }
+{
+    blocks_only_add();
+    for service in services {
+        hand(journal, app, peer, place, *service, message)?;
+    }
     Ok(())
 }

@@ -3,14 +3,14 @@
 ghost use Rattle.std.specs.Prelude.{◌≡◌, ◌<◌, Some, [], IsTrue, IfOk, OnOk, OnErr};
 ghost use Rattle.sk_msg.specs.Rules.{is_told};
 ghost use Rattle.sk_msg.specs.declared.command.Command.TheVariants as commands;
-ghost use Rattle.sk_law.specs.Blocks.{ask, enter, count_down, get, judge_limits, lose};
+ghost use Rattle.sk_law.specs.Blocks.{ask, enter, count_down, judge_limits, lose};
 ghost use Rattle.sk_law.specs.Lawful.{note_asked};
 ghost use Rattle.sk_law.specs.Links.{is_open};
 ghost use Rattle.sk_law.specs.Readings.{state_of};
 ghost use Rattle.sk_law.specs.Rows.{row};
 ghost use Rattle.sk_law.specs.Rows as law;
-ghost use Rattle.sk_node.specs.Bare.{IsBare};
 ghost use Rattle.sk_node.specs.Lists.{Whole, Part};
+ghost use Rattle.sk_node.specs.Takes.{Takes, TakesCut};
 ghost use Rattle.sk_node.specs.Turning.{law_row, is_out, is_all_out, are_all_away, is_finished, answer_of, rest_of, RowWent, RowCut, Turns};
 ghost use Rattle.sk_node.specs.Verdicts.{verdict_of};
 
@@ -32,9 +32,8 @@ pub fn take<A: App>(
     message: Message,
 ) -> Result<(), WantOfMemory>
     requires is_open { IsTrue (is_open journal.old.setup journal.old.past peer) }
-    requires bare { IsBare journal.old }
-    ensures ok { OnOk result (Whole journal.old journal.new (judge_limits journal.old.setup (get journal.old.setup peer message [] journal.old.past)) (A.lists app.old) (A.lists app.new)) }
-    ensures err { OnErr result (Part journal.old journal.new (judge_limits journal.old.setup (get journal.old.setup peer message [] journal.old.past)) (A.lists app.old) (A.lists app.new)) }
+    ensures ok { OnOk result (Takes journal.old journal.new peer message (A.lists app.old) (A.lists app.new)) }
+    ensures err { OnErr result (TakesCut journal.old journal.new peer message (A.lists app.old) (A.lists app.new)) }
     ensures origin { A.origin app.new ≡ A.origin app.old }
 {
     blocks_only_add();
@@ -81,7 +80,6 @@ pub fn ask<A: App>(
 
 /// One turn.
 pub fn turn<A: App>(journal: &mut Journal, app: &mut A) -> Result<Turned, WantOfMemory>
-    requires bare { IsBare journal.old }
     ensures turned { IfOk result (λ turned. Turns turned journal.old journal.new (A.lists app.old) (A.lists app.new)) }
     ensures err { OnErr result (RowCut journal.old journal.new (A.lists app.old) (A.lists app.new)) }
     ensures origin { A.origin app.new ≡ A.origin app.old }
@@ -152,7 +150,6 @@ fn are_all_away(journal: &Journal) -> bool
 /// The row that comes next is done.
 pub fn act<A: App>(journal: &mut Journal, app: &mut A, next: Row) -> Result<(), WantOfMemory>
     requires row { row journal.old.setup journal.old.past ≡ Some (law_row next) }
-    requires bare { IsBare journal.old }
     ensures ok { OnOk result (RowWent (law_row next) journal.old journal.new (A.lists app.old) (A.lists app.new)) }
     ensures err { OnErr result (RowCut journal.old journal.new (A.lists app.old) (A.lists app.new)) }
     ensures origin { A.origin app.new ≡ A.origin app.old }
@@ -183,7 +180,6 @@ fn go_on<A: App>(journal: &mut Journal, app: &mut A, to: State) -> Result<(), Wa
 /// The ready handler is called.
 fn ready<A: App>(journal: &mut Journal, app: &mut A) -> Result<(), WantOfMemory>
     requires row { row journal.old.setup journal.old.past ≡ Some law.Ready }
-    requires bare { IsBare journal.old }
     ensures ok { OnOk result (RowWent law.Ready journal.old journal.new (A.lists app.old) (A.lists app.new)) }
     ensures err { OnErr result (RowCut journal.old journal.new (A.lists app.old) (A.lists app.new)) }
     ensures origin { A.origin app.new ≡ A.origin app.old }
@@ -197,7 +193,6 @@ fn ready<A: App>(journal: &mut Journal, app: &mut A) -> Result<(), WantOfMemory>
 /// A step begins.
 fn step<A: App>(journal: &mut Journal, app: &mut A) -> Result<(), WantOfMemory>
     requires row { row journal.old.setup journal.old.past ≡ Some law.Step }
-    requires bare { IsBare journal.old }
     ensures ok { OnOk result (RowWent law.Step journal.old journal.new (A.lists app.old) (A.lists app.new)) }
     ensures err { OnErr result (RowCut journal.old journal.new (A.lists app.old) (A.lists app.new)) }
     ensures origin { A.origin app.new ≡ A.origin app.old }

@@ -1,5 +1,5 @@
-//! A participant of a simulation: its lifecycle, its steps in virtual time, its commands, and the
-//! order of its links.
+//! A participant of a simulation: its lifecycle, its steps in virtual time, its commands, its services,
+//! and the order of its links.
 //!
 //! A [`Node`] is a state machine. Messages go in, what it puts for the others comes out, and its
 //! journal is the whole truth about it. It calls an [`App`] where the simulation needs an answer.
@@ -23,7 +23,9 @@
 //! exactly what the journal says. After want of memory the journal is a front of a lawful one, and
 //! what the app was told agrees with it but for the last entry.
 //!
-//! For now a participant has no services, and its handlers are blocking ones.
+//! Its services are those of its setup, at most 64, numbered from 0. A message is handed to those that
+//! match what its sender announced and whose controller takes it; an action of the app changes one of
+//! them, and what it sends is put. For now the handlers of a participant are blocking ones.
 #![tactic(auto)]
 
 mod actions;
@@ -38,6 +40,7 @@ mod node;
 mod puts;
 mod receive;
 mod rows;
+mod services;
 mod states;
 mod steps;
 

@@ -3,13 +3,15 @@
 ghost use Rattle.std.specs.Prelude.{◌≡◌, ℕ, ◌<◌, ◌≤◌, ◌+◌, ◌^◌, true, false, Some, None, IsTrue, [], length, replicate, slice_get, slice_index_or, slice_set, IfOk, IfSome, IfNone, OnOk, OnErr, OnSome, IsErr};
 ghost use Rattle.sk_msg.specs.Each.{each_after};
 ghost use Rattle.sk_msg.specs.Rules.{is_step_size, is_new_name};
-ghost use Rattle.sk_law.specs.Blocks.{ask, get, judge_limits, lose, making};
+ghost use Rattle.sk_pubsub.specs.Announcing.{are_numbered};
+ghost use Rattle.sk_law.specs.Blocks.{ask, judge_limits, lose, making};
 ghost use Rattle.sk_law.specs.Kept.{IsCut};
 ghost use Rattle.sk_law.specs.Lawful.{Lawful, is_loss, note_asked};
 ghost use Rattle.sk_law.specs.Links.{is_open};
 ghost use Rattle.sk_law.specs.Readings.{put, state_of};
 ghost use Rattle.sk_node.specs.Known.{Serves, Stops, IsSound};
 ghost use Rattle.sk_node.specs.Peers.{HearsNothing, Hears, Loses};
+ghost use Rattle.sk_node.specs.Takes.{Takes, TakesCut};
 ghost use Rattle.sk_node.specs.Turning.{IsEnded, IsTurned, RowCut};
 ghost use Rattle.sk_node.specs.declared.rows.Turned.TheVariants.{Finished};
 ghost use Rattle.sk_node.specs.Verdicts.{verdict_of};
@@ -66,7 +68,8 @@ impl Node {
         requires required { IfSome setup.required (λ names. IsTrue (each_after is_new_name [] names)) }
         requires size { IfSome setup.step (λ size. IsTrue (is_step_size size)) }
         requires duration { setup.duration ≤ 2 ^ 61 }
-        requires services { setup.services ≡ [] }
+        requires services { length setup.services ≤ 64 }
+        requires numbered { IsTrue (are_numbered 0 setup.services) }
         requires blocking { setup.is_async ≡ false }
         requires ready { setup.ready_async ≡ false }
         ensures setup { IfOk result (λ node. node.kept.setup ≡ setup) }
@@ -84,8 +87,9 @@ impl Node {
         })
     }
 
-    /// A message came from a peer. One out of order is noted and has no other effect; its sender is
-    /// then gone with reason 8.
+    /// A message came from a peer. It is handed to the own services that receive it, one after another
+    /// in rising number, as they are judged before it is got. One out of order is noted and has no
+    /// other effect; its sender is then gone with reason 8.
     pub fn take<A: App>(
         &mut self,
         peer: u32,
@@ -94,10 +98,10 @@ impl Node {
     ) -> Result<(), WantOfMemory>
         requires is_open { IsTrue (is_open self.old.kept.setup self.old.kept.past peer) }
         ensures ok { OnOk result (Serves self.old self.new (A.lists app.old) (A.lists app.new)) }
-        ensures gets { OnOk result (self.new.kept.past ≡ judge_limits self.old.kept.setup (get self.old.kept.setup peer message [] self.old.kept.past)) }
+        ensures gets { OnOk result (Takes self.old.kept self.new.kept peer message (A.lists app.old) (A.lists app.new)) }
         ensures hears { OnOk result (Hears self.old.kept.setup peer message self.old.kept.past self.new.kept.past) }
         ensures err { self.old.poisoned ≡ false → OnErr result (Stops self.old self.new (A.lists app.old) (A.lists app.new)) }
-        ensures cut { self.old.poisoned ≡ false → OnErr result (IsCut self.old.kept self.new.kept (judge_limits self.old.kept.setup (get self.old.kept.setup peer message [] self.old.kept.past))) }
+        ensures cut { self.old.poisoned ≡ false → OnErr result (TakesCut self.old.kept self.new.kept peer message (A.lists app.old) (A.lists app.new)) }
         ensures stopped { self.old.poisoned ≡ true → IsErr result × (self.new ≡ self.old) × (A.lists app.new ≡ A.lists app.old) }
         ensures origin { A.origin app.new ≡ A.origin app.old }
     {

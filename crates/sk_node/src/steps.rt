@@ -5,7 +5,6 @@ ghost use Rattle.sk_law.specs.declared.made.Call.TheVariants as calls;
 ghost use Rattle.sk_law.specs.Blocks.{complete, completes_ready, completes_step, end_blocking, end_open, end_step, is_number, may_end};
 ghost use Rattle.sk_law.specs.Readings.{next_number, next_time, state_of};
 ghost use Rattle.sk_law.specs.Rows.{row, Step};
-ghost use Rattle.sk_node.specs.Bare.{IsBare};
 ghost use Rattle.sk_node.specs.Calls.{Steps, StepsCut};
 ghost use Rattle.sk_law.specs.Kept.{grown, IsCut};
 ghost use Rattle.sk_node.specs.Lists.{IsQuiet};
@@ -43,7 +42,6 @@ fn next_time(journal: &Journal) -> SimTime
 /// Takes a step: it begins, the app's handler is called and what it asks for is answered, and a
 /// blocking one ends.
 pub fn take_step<A: App>(journal: &mut Journal, app: &mut A) -> Result<(), WantOfMemory>
-    requires bare { IsBare journal.old }
     requires row { row journal.old.setup journal.old.past ≡ Some Step }
     ensures ok { OnOk result (Steps journal.old journal.new (calls.Step (next_number journal.old.past.journal) (next_time (unwrap_or journal.old.setup.step 0) journal.old.past.journal)) (A.lists app.old) (A.lists app.new)) }
     ensures err { OnErr result (StepsCut journal.old journal.new (calls.Step (next_number journal.old.past.journal) (next_time (unwrap_or journal.old.setup.step 0) journal.old.past.journal)) (A.lists app.old) (A.lists app.new)) }

@@ -2,7 +2,7 @@
 
 ghost use Rattle.std.specs.Prelude.{◌≡◌, false, IfOk};
 
-use crate::play::{Seat, expect, make_seat, names, turn_on};
+use crate::play::{Seat, expect, make_seat, names, take, turn_on};
 use sk_base::{Bytes, Name, SimTime, Text};
 use sk_msg::rules::{is_call, is_mark, is_required_count, is_service_id, is_step_size, is_told};
 use sk_msg::{Announced, Head, Message, RefuseReason, Role, Service, ServiceKind, Spec, State};
@@ -164,10 +164,9 @@ fn message_of(rt: &impl Abort, alloc: Global, words: &str) -> Result<Message, Fa
 }
 
 /// A takes a message of B, which is open.
-fn take(rt: &impl Abort, alloc: Global, a: &mut Seat, words: &str) -> Result<(), Fail> {
+fn hear(rt: &impl Abort, alloc: Global, a: &mut Seat, words: &str) -> Result<(), Fail> {
     let message = message_of(rt, alloc, words)?;
-    assert!(rt; a.node.is_open(1), "{words}");
-    a.node.take(1, message, &mut a.app)?;
+    assert!(rt; take(a, 1, message)?, "{words}");
     Ok(())
 }
 
@@ -175,13 +174,23 @@ fn take(rt: &impl Abort, alloc: Global, a: &mut Seat, words: &str) -> Result<(),
 fn breaks(rt: &impl Abort, alloc: Global, row: Row) -> Result<(), Fail> {
     let (before, words) = row;
     let mut a = make_seat(rt, alloc, &["A", "B"], &["A"], 0, 1_000_000, 2_000_000)?;
+    break_order(rt, alloc, &mut a, before, words)
+}
+
+fn break_order(
+    rt: &impl Abort,
+    alloc: Global,
+    a: &mut Seat,
+    before: &[&str],
+    words: &str,
+) -> Result<(), Fail> {
     for said in before {
-        take(rt, alloc, &mut a, said)?;
+        hear(rt, alloc, a, said)?;
     }
     let from = a.node.journal().len();
-    take(rt, alloc, &mut a, words)?;
+    hear(rt, alloc, a, words)?;
     assert!(rt; !a.node.is_open(1), "{words}");
-    turn_on(&mut a)?;
+    turn_on(a)?;
     expect(
         rt,
         alloc,

@@ -8,7 +8,7 @@ use crate::player::Player;
 use sk_base::{Name, SimTime};
 use sk_law::{Services, Setup};
 use sk_msg::rules::{is_new_name, is_step_size, is_told};
-use sk_msg::{Content, Entry, Message, Names, State, Verdict};
+use sk_msg::{Command, Content, Entry, Message, Names, State, Verdict};
 use sk_node::{Node, Turned};
 use std::alloc::Global;
 use std::process::Abort;
@@ -70,10 +70,38 @@ pub fn make_seat(
     })
 }
 
+/// Its next turn.
+pub fn turn(seat: &mut Seat) -> Result<Turned, Fail> {
+    Ok(seat.node.turn(&mut seat.app)?)
+}
+
+/// A command is asked of it: its answer.
+pub fn command(seat: &mut Seat, command: Command) -> Result<Verdict, Fail> {
+    Ok(seat.node.ask(command, &mut seat.app)?)
+}
+
+/// It takes a message of a peer while that link is open there: whether it was.
+pub fn take(seat: &mut Seat, peer: u32, message: Message) -> Result<bool, Fail> {
+    if !seat.node.is_open(peer) {
+        return Ok(false);
+    }
+    seat.node.take(peer, message, &mut seat.app)?;
+    Ok(true)
+}
+
+/// A peer's link is lost there while it is open, with reason 5: whether it was.
+pub fn lose(seat: &mut Seat, peer: u32) -> Result<bool, Fail> {
+    if !seat.node.is_open(peer) {
+        return Ok(false);
+    }
+    seat.node.gone(peer, 5, &mut seat.app)?;
+    Ok(true)
+}
+
 /// One turn after another until nothing comes next by itself, at most a hundred.
 pub fn turn_on(seat: &mut Seat) -> Result<Turned, Fail> {
     for _turn in 0..100 {
-        match seat.node.turn(&mut seat.app)? {
+        match turn(seat)? {
             Turned::Entries(_) | Turned::Counted => {}
             turned => return Ok(turned),
         }
@@ -87,7 +115,7 @@ pub fn turn_to(seat: &mut Seat, state: State) -> Result<(), Fail> {
         if state_of(&seat.node) == state {
             return Ok(());
         }
-        seat.node.turn(&mut seat.app)?;
+        turn(seat)?;
     }
     Ok(())
 }
@@ -109,9 +137,7 @@ pub fn carry(from: &mut Seat, to: &mut Seat) -> Result<(), Fail> {
         let Some(message) = from.node.take_out(to.number) else {
             return Ok(());
         };
-        if to.node.is_open(from.number) {
-            to.node.take(from.number, message, &mut to.app)?;
-        }
+        take(to, from.number, message)?;
     }
     Ok(())
 }

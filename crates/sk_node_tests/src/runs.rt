@@ -1,6 +1,8 @@
 //! Participants driven by hand. What is expected was worked out by hand first.
 
-use crate::play::{Seat, carry, exchange, expect, make_seat, state_of, turn_on, turn_to};
+use crate::play::{
+    Seat, carry, command, exchange, expect, lose, make_seat, state_of, turn, turn_on, turn_to,
+};
 use sk_msg::{Command, Content, Entry, State, Verdict};
 use sk_node::Turned;
 use std::alloc::Global;
@@ -16,11 +18,15 @@ fn alone(rt: &impl Abort, alloc: Global) -> Result<Seat, Fail> {
 #[test]
 fn one_alone(rt: HostRuntime) -> Result<(), Fail> {
     let mut a = alone(&rt, rt.alloc())?;
-    assert_eq!(rt; turn_on(&mut a)?, Turned::Finished);
+    run_alone(&rt, rt.alloc(), &mut a)
+}
+
+fn run_alone(rt: &impl Abort, alloc: Global, a: &mut Seat) -> Result<(), Fail> {
+    assert_eq!(rt; turn_on(a)?, Turned::Finished);
     assert_eq!(rt; a.node.journal().len(), 22);
     expect(
-        &rt,
-        rt.alloc(),
+        rt,
+        alloc,
         &a.node,
         0,
         &[
@@ -54,35 +60,24 @@ fn one_alone(rt: HostRuntime) -> Result<(), Fail> {
 #[test]
 fn commands_are_refused(rt: HostRuntime) -> Result<(), Fail> {
     let mut a = alone(&rt, rt.alloc())?;
-    turn_to(&mut a, State::Running)?;
-    ask(&rt, &mut a, Command::Pause, Verdict::Accepted)?;
-    ask(&rt, &mut a, Command::Pause, Verdict::Refused(State::Paused))?;
-    ask(&rt, &mut a, Command::Continue, Verdict::Accepted)?;
-    ask(
-        &rt,
-        &mut a,
-        Command::Continue,
-        Verdict::Refused(State::Running),
-    )?;
-    turn_to(&mut a, State::ShuttingDown)?;
-    ask(
-        &rt,
-        &mut a,
-        Command::Abort,
-        Verdict::Refused(State::ShuttingDown),
-    )?;
-    turn_to(&mut a, State::Shutdown)?;
-    ask(
-        &rt,
-        &mut a,
-        Command::Stop,
-        Verdict::Refused(State::Shutdown),
-    )
+    refuse_commands(&rt, &mut a)
+}
+
+fn refuse_commands(rt: &impl Abort, a: &mut Seat) -> Result<(), Fail> {
+    turn_to(a, State::Running)?;
+    ask(rt, a, Command::Pause, Verdict::Accepted)?;
+    ask(rt, a, Command::Pause, Verdict::Refused(State::Paused))?;
+    ask(rt, a, Command::Continue, Verdict::Accepted)?;
+    ask(rt, a, Command::Continue, Verdict::Refused(State::Running))?;
+    turn_to(a, State::ShuttingDown)?;
+    ask(rt, a, Command::Abort, Verdict::Refused(State::ShuttingDown))?;
+    turn_to(a, State::Shutdown)?;
+    ask(rt, a, Command::Stop, Verdict::Refused(State::Shutdown))
 }
 
 /// The command is asked, and so it is answered.
-fn ask(rt: &impl Abort, seat: &mut Seat, command: Command, verdict: Verdict) -> Result<(), Fail> {
-    assert_eq!(rt; seat.node.ask(command, &mut seat.app)?, verdict);
+fn ask(rt: &impl Abort, seat: &mut Seat, asked: Command, verdict: Verdict) -> Result<(), Fail> {
+    assert_eq!(rt; command(seat, asked)?, verdict);
     Ok(())
 }
 
@@ -103,8 +98,8 @@ fn one_of_two(rt: &impl Abort, alloc: Global, number: u32) -> Result<Seat, Fail>
 fn run_both(a: &mut Seat, b: &mut Seat) -> Result<(), Fail> {
     for _round in 0..20 {
         if state_of(&a.node) != State::Running || state_of(&b.node) != State::Running {
-            a.node.turn(&mut a.app)?;
-            b.node.turn(&mut b.app)?;
+            turn(a)?;
+            turn(b)?;
             exchange(a, b)?;
         }
     }
@@ -117,12 +112,15 @@ fn a_peer_is_lost(rt: HostRuntime) -> Result<(), Fail> {
     let alloc = rt.alloc();
     let mut a = one_of_two(&rt, alloc, 0)?;
     let mut b = one_of_two(&rt, alloc, 1)?;
-    run_both(&mut a, &mut b)?;
+    lose_the_other(&rt, alloc, &mut a, &mut b)
+}
+
+fn lose_the_other(rt: &impl Abort, alloc: Global, a: &mut Seat, b: &mut Seat) -> Result<(), Fail> {
+    run_both(a, b)?;
     let from = a.node.journal().len();
-    assert!(rt; a.node.is_open(1));
-    a.node.gone(1, 5, &mut a.app)?;
+    assert!(rt; lose(a, 1)?);
     expect(
-        &rt,
+        rt,
         alloc,
         &a.node,
         from,
@@ -130,9 +128,9 @@ fn a_peer_is_lost(rt: HostRuntime) -> Result<(), Fail> {
     )?;
     assert!(rt; !a.node.is_open(1));
     let from = a.node.journal().len();
-    assert_eq!(rt; turn_on(&mut a)?, Turned::Finished);
+    assert_eq!(rt; turn_on(a)?, Turned::Finished);
     expect(
-        &rt,
+        rt,
         alloc,
         &a.node,
         from,
@@ -152,18 +150,22 @@ fn one_of_two_is_aborted(rt: HostRuntime) -> Result<(), Fail> {
     let alloc = rt.alloc();
     let mut a = one_of_two(&rt, alloc, 0)?;
     let mut b = one_of_two(&rt, alloc, 1)?;
-    run_both(&mut a, &mut b)?;
+    abort_one(&rt, alloc, &mut a, &mut b)
+}
+
+fn abort_one(rt: &impl Abort, alloc: Global, a: &mut Seat, b: &mut Seat) -> Result<(), Fail> {
+    run_both(a, b)?;
     let from_a = a.node.journal().len();
     let from_b = b.node.journal().len();
-    ask(&rt, &mut a, Command::Abort, Verdict::Accepted)?;
-    assert_eq!(rt; turn_on(&mut a)?, Turned::Quiet);
-    carry(&mut a, &mut b)?;
-    assert_eq!(rt; turn_on(&mut b)?, Turned::Quiet);
-    carry(&mut b, &mut a)?;
-    assert_eq!(rt; turn_on(&mut a)?, Turned::Finished);
-    assert_eq!(rt; turn_on(&mut b)?, Turned::Finished);
+    ask(rt, a, Command::Abort, Verdict::Accepted)?;
+    assert_eq!(rt; turn_on(a)?, Turned::Quiet);
+    carry(a, b)?;
+    assert_eq!(rt; turn_on(b)?, Turned::Quiet);
+    carry(b, a)?;
+    assert_eq!(rt; turn_on(a)?, Turned::Finished);
+    assert_eq!(rt; turn_on(b)?, Turned::Finished);
     expect(
-        &rt,
+        rt,
         alloc,
         &a.node,
         from_a,
@@ -178,7 +180,7 @@ fn one_of_two_is_aborted(rt: HostRuntime) -> Result<(), Fail> {
         ],
     )?;
     expect(
-        &rt,
+        rt,
         alloc,
         &b.node,
         from_b,
@@ -230,21 +232,31 @@ fn one_of_three_stops_in_its_step(rt: HostRuntime) -> Result<(), Fail> {
     let mut b = one_of_three(&rt, alloc, 1, 3_000_000)?;
     let mut c = one_of_three(&rt, alloc, 2, 4_000_000)?;
     a.app.stops_in = 2;
+    stop_one(&rt, alloc, &mut a, &mut b, &mut c)
+}
+
+fn stop_one(
+    rt: &impl Abort,
+    alloc: Global,
+    a: &mut Seat,
+    b: &mut Seat,
+    c: &mut Seat,
+) -> Result<(), Fail> {
     for _round in 0..40 {
-        a.node.turn(&mut a.app)?;
-        b.node.turn(&mut b.app)?;
-        c.node.turn(&mut c.app)?;
-        exchange(&mut a, &mut b)?;
-        exchange(&mut b, &mut c)?;
-        exchange(&mut a, &mut c)?;
+        turn(a)?;
+        turn(b)?;
+        turn(c)?;
+        exchange(a, b)?;
+        exchange(b, c)?;
+        exchange(a, c)?;
     }
-    assert_eq!(rt; turn_on(&mut a)?, Turned::Finished);
-    assert_eq!(rt; turn_on(&mut b)?, Turned::Finished);
-    assert_eq!(rt; turn_on(&mut c)?, Turned::Finished);
-    assert_eq!(rt; until_of(&a), 4_000_001);
-    assert_eq!(rt; times(alloc, &a)?.as_slice(), [0, 2_000_000].as_slice());
-    assert_eq!(rt; times(alloc, &b)?.as_slice(), [0, 3_000_000].as_slice());
-    assert_eq!(rt; times(alloc, &c)?.as_slice(), [0, 4_000_000].as_slice());
+    assert_eq!(rt; turn_on(a)?, Turned::Finished);
+    assert_eq!(rt; turn_on(b)?, Turned::Finished);
+    assert_eq!(rt; turn_on(c)?, Turned::Finished);
+    assert_eq!(rt; until_of(a), 4_000_001);
+    assert_eq!(rt; times(alloc, a)?.as_slice(), [0, 2_000_000].as_slice());
+    assert_eq!(rt; times(alloc, b)?.as_slice(), [0, 3_000_000].as_slice());
+    assert_eq!(rt; times(alloc, c)?.as_slice(), [0, 4_000_000].as_slice());
     Ok(())
 }
 
@@ -254,9 +266,13 @@ fn a_257th_action(rt: HostRuntime) -> Result<(), Fail> {
     let alloc = rt.alloc();
     let mut a = alone(&rt, alloc)?;
     a.app.asks = 257;
-    turn_to(&mut a, State::CommunicationInitialized)?;
+    ask_often(&rt, alloc, &mut a)
+}
+
+fn ask_often(rt: &impl Abort, alloc: Global, a: &mut Seat) -> Result<(), Fail> {
+    turn_to(a, State::CommunicationInitialized)?;
     let from = a.node.journal().len();
-    assert_eq!(rt; a.node.turn(&mut a.app)?, Turned::Entries(259));
+    assert_eq!(rt; turn(a)?, Turned::Entries(259));
     let refused = Verdict::Refused(State::CommunicationInitialized);
     let mut asked = 0_u32;
     for entry in a.node.journal() {
@@ -268,7 +284,7 @@ fn a_257th_action(rt: HostRuntime) -> Result<(), Fail> {
     }
     assert_eq!(rt; asked, 256);
     expect(
-        &rt,
+        rt,
         alloc,
         &a.node,
         from + 256,
@@ -281,23 +297,27 @@ fn a_257th_action(rt: HostRuntime) -> Result<(), Fail> {
 fn a_journal_is_full(rt: HostRuntime) -> Result<(), Fail> {
     let alloc = rt.alloc();
     let mut a = alone(&rt, alloc)?;
+    fill(&rt, alloc, &mut a)
+}
+
+fn fill(rt: &impl Abort, alloc: Global, a: &mut Seat) -> Result<(), Fail> {
     for _ask in 0..500_000 {
         if a.node.journal().len() < 500_000 {
-            a.node.ask(Command::Continue, &mut a.app)?;
+            command(a, Command::Continue)?;
         }
     }
     expect(
-        &rt,
+        rt,
         alloc,
         &a.node,
         500_000,
         &["fault 3", "state Error", "system Error"],
     )?;
     let refused = Verdict::Refused(State::Error);
-    ask(&rt, &mut a, Command::Continue, refused)?;
-    ask(&rt, &mut a, Command::Continue, refused)?;
+    ask(rt, a, Command::Continue, refused)?;
+    ask(rt, a, Command::Continue, refused)?;
     expect(
-        &rt,
+        rt,
         alloc,
         &a.node,
         500_003,

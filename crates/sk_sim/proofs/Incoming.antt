@@ -15,6 +15,7 @@ use Rattle.sk_law.specs.Kept.{Kept}
 use Rattle.sk_law.specs.Links.{is_peer, is_open, comes_in_order}
 use Rattle.sk_law.specs.Readings.{got, put, put_to, got_from, gones}
 use Rattle.sk_node.specs.Known.{Known, Serves, Keeps, IsSound}
+use Rattle.sk_node.specs.Takes.{Takes as TakesOne}
 use Rattle.sk_node.specs.Went.{Went}
 use Rattle.sk_node.specs.Lists.{Lists}
 use Rattle.sk_node.specs.Peers.{Hears}
@@ -98,9 +99,13 @@ tied_on a node ends t same good at sent got_is silent refused unlost = record {
   taken = good.within;
   refused = refused;
   unlost = λ p other. unlost p (ap (λ (S : Setup). is_peer S p) (sym same.setup) ∙ other);
-  few = good.few;
+  bare = none;
+  few = good.few none;
   roomy = subst (λ (w : Place). (q : ℕ) → IsPeer w q → 0 < room w q) (sym at) t.roomy;
 }
+  where
+    none : node.kept.setup.services ≡ []
+    none = ap (λ (S : Setup). S.services) same.setup ∙ t.bare
 
 -- what such a call goes on with
 pub goes_on : (a : Wired) (node : Known) (ends : Account) (was now : Lists) → (w : Went a.node.kept node.kept was now) → Keeps a.node node w.made →
@@ -134,10 +139,11 @@ peer_of a p t h =
 -- a message was popped and taken
 pub takes_read : (a : Wired) (node : Known) (ends : Account) (was now : Lists) (p : ℕ) (m : Content) → IsTied a → IsPeer (place a.ends) p →
     OnlyPops a.ends ends p → popped ends p ≡ popped a.ends p ++ m ∷ [] → Serves a.node node was now →
-    Hears a.node.kept.setup p m a.node.kept.past node.kept.past → node.kept.past ≡ judge_limits a.node.kept.setup (get a.node.kept.setup p m [] a.node.kept.past) → IsSound node → Takes true a (record a { node = node; ends = ends }) was now p
-takes_read a node ends was now p m t peer only came served hears whole good =
+    Hears a.node.kept.setup p m a.node.kept.past node.kept.past → TakesOne a.node.kept node.kept p m was now → IsSound node → Takes true a (record a { node = node; ends = ends }) was now p
+takes_read a node ends was now p m t peer only came served hears taken good =
+    let whole : node.kept.past ≡ judge_limits a.node.kept.setup (get a.node.kept.setup p m taken.went.made a.node.kept.past) = ap (λ (k : Kept). k.past) taken.went.whole ∙ ap (judge_limits a.node.kept.setup) taken.gets in
     let same = same_part a.node node was now served.went served.keeps in record {
-      goes = goes_on a node ends was now served.went served.keeps (subst (λ (past : Past). IsUntouched a.node.kept.past past) (sym whole) (taken_untouched a.node.kept.setup p m a.node.kept.past)) only.place only.pushed;
+      goes = goes_on a node ends was now served.went served.keeps (subst (λ (past : Past). IsUntouched a.node.kept.past past) (sym whole) (taken_untouched a.node.kept.setup p m taken.went.made a.node.kept.past)) only.place only.pushed;
       tied = tied_on a node ends t same good only.place only.pushed
           (λ q. elim (cases_eq q p) [
             | inl e ↦ subst (λ r. got node.kept.past.journal r ≡ popped ends r) (sym e) (hears.got_is ∙ (ap (λ l. l ++ m ∷ []) (t.got_is p) ∙ sym came))
@@ -195,6 +201,7 @@ takes_none a ends was p t only none empty still =
         taken = t.taken;
         refused = t.refused;
         unlost = t.unlost;
+        bare = t.bare;
         few = t.few;
         roomy = subst (λ (w : Place). (q : ℕ) → IsPeer w q → 0 < room w q) (sym only.place) t.roomy;
       };

@@ -241,6 +241,7 @@ one_tied moved a b p h t low = record {
   taken = low;
   refused = λ q. ap (λ (past : Past). list_all (λ reason. reason == 8) (gones past.journal q)) h.node.past ∙ t.refused q;
   unlost = λ q other. ap (λ (past : Past). gones past.journal q) h.node.past ∙ t.unlost q (ap (λ (S : Setup). is_peer S q) (sym h.node.setup) ∙ other);
+  bare = ap (λ (S : Setup). S.services) h.node.setup ∙ t.bare;
   few = λ q. subst (λ (past : Past). length (put past.journal q) ≤ 501000) (sym h.node.past) (t.few q);
   roomy = subst (λ (w : Place). (q : ℕ) → IsPeer w q → 0 < room w q) (sym h.ring.place) t.roomy;
 }

@@ -105,8 +105,8 @@ length_of x (suc n) = ap suc (length_of x n)
 pub new_tied : (a : Wired) (setup : Setup) → a.node.kept.setup ≡ setup → a.node.kept.past ≡ making setup →
     a.node.kept.out ≡ replicate (length setup.names) 0 → a.node.poisoned ≡ false → IsSound a.node →
     a.ends.number ≡ setup.number → setup.number < length setup.names → length setup.names ≤ 32 → size (place a.ends) ≡ length setup.names →
-    IsFresh a.ends → a.held.items ≡ replicate (size (place a.ends)) None → IsTied a
-new_tied a setup is_setup is_past is_out fine good number within few ways fresh held = record {
+    IsFresh a.ends → a.held.items ≡ replicate (size (place a.ends)) None → setup.services ≡ [] → IsTied a
+new_tied a setup is_setup is_past is_out fine good number within few ways fresh held bare = record {
   sound = fine;
   own = number ∙ ap (λ (S : Setup). S.number) (sym is_setup);
   within = subst (λ (S : Setup). S.number < length S.names) (sym is_setup) within;
@@ -123,9 +123,13 @@ new_tied a setup is_setup is_past is_out fine good number within few ways fresh 
   taken = good.within;
   refused = λ p. ap (λ l. list_all (λ reason. reason == 8) l) (ap (λ (past : Past). gones past.journal p) is_past ∙ nothing_gone setup p);
   unlost = λ p other. ap (λ (past : Past). gones past.journal p) is_past ∙ nothing_gone setup p;
-  few = good.few;
+  bare = none;
+  few = good.few none;
   roomy = fresh.roomy;
 }
+  where
+    none : a.node.kept.setup.services ≡ []
+    none = ap (λ (S : Setup). S.services) is_setup ∙ bare
 
 -- what the laws ask of a setup
 pub is_setup : (S : Setup) → S.number < length S.names → length S.names ≤ 32 → IsTrue (each_after is_new_name [] S.names) →

@@ -134,6 +134,7 @@ looked_tied a ends p l t = record {
   taken = t.taken;
   refused = t.refused;
   unlost = t.unlost;
+  bare = t.bare;
   few = t.few;
   roomy = subst (λ (w : Place). (q : ℕ) → IsPeer w q → 0 < room w q) (sym l.place) t.roomy;
 }

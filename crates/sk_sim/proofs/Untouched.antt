@@ -207,8 +207,8 @@ limiting S past h =
 -- ## What a turn is made of
 
 -- a message that was taken touches none of it
-pub taken_untouched : (S : Setup) (p : ℕ) (m : Content) (past : Past) → IsUntouched past (judge_limits S (get S p m [] past))
-taken_untouched S p m past = limiting S (get S p m [] past) (getting S p m [] past (untouched_none past))
+pub taken_untouched : (S : Setup) (p : ℕ) (m : Content) (made : List Made) (past : Past) → IsUntouched past (judge_limits S (get S p m made past))
+taken_untouched S p m made past = limiting S (get S p m made past) (getting S p m made past (untouched_none past))
 
 acting : (S : Setup) (past : Past) (r : law.Row) (made : List Made) (now : Past) → Acts S past r made now → IsUntouched past now
 acting S past r made now (moves to) = entering S to 0 past (untouched_none past)

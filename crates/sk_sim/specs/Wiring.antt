@@ -41,7 +41,8 @@ pub record IsFresh (a : Account) : Type 0 where
   pub roomy : (q : ℕ) → IsPeer (place a) q → 0 < room (place a) q
 
 -- what ties the participant to its rings: who it is, there and here; per peer, the messages got are those popped, and those put
--- are those pushed followed by those that wait; no link was lost but for a message out of order, and what is put is bounded
+-- are those pushed followed by those that wait; no link was lost but for a message out of order; it has no services, and
+-- what is put is bounded
 pub record IsTied (a : Wired) : Type 0 where
   pub sound : a.node.poisoned ≡ false
   pub own : a.ends.number ≡ a.node.kept.setup.number
@@ -57,5 +58,6 @@ pub record IsTied (a : Wired) : Type 0 where
   pub taken : (q : ℕ) → out_of a.node.kept q ≤ length (put a.node.kept.past.journal q)
   pub refused : (p : ℕ) → list_all (λ reason. reason == 8) (gones a.node.kept.past.journal p) ≡ true
   pub unlost : (p : ℕ) → is_peer a.node.kept.setup p ≡ false → gones a.node.kept.past.journal p ≡ []
+  pub bare : a.node.kept.setup.services ≡ []
   pub few : (q : ℕ) → length (put a.node.kept.past.journal q) ≤ 501000
   pub roomy : (q : ℕ) → IsPeer (place a.ends) q → 0 < room (place a.ends) q

@@ -58,7 +58,16 @@ impl Journal {
         let first = first_in(orderly, self.awaited, &message);
         let required = find_needed(self.alloc, &self.setup, first)?;
         self.entries.reserve(1)?;
-        hear(self.alloc, &mut self.lines, number, orderly, &message)?;
+        // what a service's number is
+        let _content = message.content();
+        hear(
+            self.alloc,
+            &mut self.lines,
+            &mut self.index,
+            number,
+            orderly,
+            &message,
+        )?;
         self.awaited = require(&mut self.view, required).or(self.awaited);
         see(&mut self.view, &self.setup, orderly, number, &message);
         self.entries.push(Entry::Got(number, message)).unwrap();

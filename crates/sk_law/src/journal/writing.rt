@@ -69,7 +69,8 @@ impl Journal {
 
     /// A step began.
     pub fn add_begin(&mut self, number: u64, at: SimTime) -> Result<(), WantOfMemory>
-        requires { at ≤ 2 ^ 61 }
+        requires early { at ≤ 2 ^ 61 }
+        requires small { number ≤ 2 ^ 63 }
         ensures ok { OnOk result (self.new ≡ grown (add (Entry.Begin number at) self.old.past) self.old) }
         ensures err { OnErr result (self.new ≡ self.old) }
     {

@@ -1,12 +1,11 @@
 use Rattle.std.proofs.Common.{refl, ◌∙◌}
 use Rattle.std.proofs.lemmas.Result.{err_from_is_err_and}
-use Rattle.sk_node.proofs.Bareness.{bare_answer}
 use Rattle.sk_node.proofs.Calling.{part_answers, whole_more}
 use Rattle.sk_node.proofs.Wholes.{whole_same}
 use Rattle.sk_node.proofs.actions.answer_each.Goals as goal
 
 pub loop-action-init : goal.loop-action-init
-loop-action-init g c = record { bare = c.requires.bare; whole = whole_same c.args.journal.now (g.A.App.lists c.args.app.now); origin = refl }
+loop-action-init g c = record { whole = whole_same c.args.journal.now (g.A.App.lists c.args.app.now); origin = refl }
 
 pub returns-in_err-answer-clause-err : goal.returns-in_err-answer-clause-err
 returns-in_err-answer-clause-err g c =
@@ -16,7 +15,6 @@ returns-in_err-answer-clause-err g c =
 
 pub loop-action-preserved : goal.loop-action-preserved
 loop-action-preserved g c = record {
-  bare = bare_answer c.loop-action.journal c.answer.new.journal c.action-item.result c.loop-action.invariant.bare c.in_ok-answer.ensures.ok.past;
   whole = whole_more c.args.journal.now c.loop-action.journal c.answer.new.journal (g.A.App.lists c.args.app.now) (g.A.App.lists c.loop-action.app) (g.A.App.lists c.answer.new.app)
       c.loop-action.action-index c.args.actions.now c.action-item.result c.loop-action-test.true c.action-item.is c.loop-action.invariant.whole c.in_ok-answer.ensures.ok;
   origin = c.answer.ensures.origin ∙ c.loop-action.invariant.origin;

@@ -1,16 +1,19 @@
-use Rattle.sk_law.specs.declared.setup.Setup.{Setup}
-use Rattle.sk_law.specs.Past.{Past}
-use Rattle.sk_law.specs.Blocks.{judge_limits}
 use Rattle.sk_node.proofs.Cuts.{on_err}
-use Rattle.sk_node.proofs.Wholes.{part_first, part_then, whole_then}
+use Rattle.sk_node.proofs.Receiving.{takes_all, takes_cut, takes_limited}
 use Rattle.sk_node.proofs.events.take.Goals as goal
 
 pub returns-in_err-get-clause-err : goal.returns-in_err-get-clause-err
-returns-in_err-get-clause-err g c = on_err c.from_residual.result (part_first c.in_err-get.ensures.err (c.blocks_only_add.ensures.limits _ _))
+returns-in_err-get-clause-err g c =
+    on_err c.from_residual.result
+    (takes_cut c.blocks_only_add.ensures c.args.journal.now c.get.new.journal c.args.peer c.args.message (g.A.App.lists c.args.app.now) (g.A.App.lists c.get.new.app) c.requires.is_open c.in_err-get.ensures.err)
 
 pub returns-in_err-limit-clause-err : goal.returns-in_err-limit-clause-err
 returns-in_err-limit-clause-err g c =
-    on_err c.from_residual-in_err-limit.result (part_then (λ S past. judge_limits S past) c.in_ok-get.ensures.ok (c.blocks_only_add.ensures.gets _ _ _ _ _) c.in_err-limit.ensures.err)
+    on_err c.from_residual-in_err-limit.result
+    (takes_limited c.blocks_only_add.ensures c.args.journal.now c.get.new.journal c.limit.new.journal c.args.peer c.args.message (g.A.App.lists c.args.app.now) (g.A.App.lists c.get.new.app) (g.A.App.lists c.limit.new.app) c.requires.is_open
+    c.in_ok-get.ensures.ok c.in_err-limit.ensures.err)
 
 pub returns-clause-ok : goal.returns-clause-ok
-returns-clause-ok g c = whole_then (λ S past. judge_limits S past) c.in_ok-get.ensures.ok c.in_ok-limit.ensures.ok
+returns-clause-ok g c =
+    takes_all c.blocks_only_add.ensures c.args.journal.now c.get.new.journal c.limit.new.journal c.args.peer c.args.message (g.A.App.lists c.args.app.now) (g.A.App.lists c.get.new.app) (g.A.App.lists c.limit.new.app) c.requires.is_open
+    c.in_ok-get.ensures.ok c.in_ok-limit.ensures.ok

@@ -19,13 +19,13 @@ returns-in-Some c =
     let named : slice_get (c.self.inside.setup.names ++ c.self.inside.memory.tools) c.args.number ≡ Some c.in-Some.name.now = sym c.name_of.ensures ∙ ap option_copied c.in-Some.is in
     let small : c.args.number < all_of c.self.inside.setup c.self.inside.memory.tools = subst (λ n. c.args.number < n) (length-append c.self.inside.setup.names c.self.inside.memory.tools) (slice_get_within _ c.args.number c.in-Some.name.now named) in
     let line : c.index.result.now ≡ slice_index_or c.self.inside.lines.items c.args.number no_line =
-    get_or_read_under c.self.inside.lines.items c.args.number _ c.index.result.now no_line c.index.ensures small (sym c.self.invariant.all_lines) in
+    get_or_read_under c.self.inside.lines.items c.args.number _ c.index.result.now no_line c.index.ensures small (sym c.self.invariant.tied.all_lines) in
     subst (λ (k : Kept). c.comes.result ≡ comes_in_order k.setup k.past c.args.number c.args.message.now) c.self.view_is
     (c.comes.ensures
     ∙ ap₂ (λ w (l : Line). comes w (nat_le (length c.as_slice.result.now) c.args.number) c.in-Some.name.now l.said c.args.message.now)
     (c.waits.ensures ∙ ap (waits c.self.inside.setup.coordinated c.self.inside.tally.state) c.unwrap_or.ensures) line
     ∙ ap (λ (ns : List (List ℕ)). comes (waits c.self.inside.setup.coordinated c.self.inside.tally.state (unwrap_or c.self.inside.awaited false)) (nat_le (length ns) c.args.number) c.in-Some.name.now (slice_index_or c.self.inside.lines.items c.args.number no_line).said c.args.message.now) c.as_slice.ensures
-    ∙ comes-by past c.args.number c.args.message.now c.in-Some.name.now c.self.invariant named)
+    ∙ comes-by past c.args.number c.args.message.now c.in-Some.name.now c.self.invariant.tied named)
 
 pub returns-in-None : goal.returns-in-None
 returns-in-None c =

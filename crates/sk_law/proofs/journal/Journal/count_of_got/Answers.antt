@@ -7,4 +7,4 @@ use Rattle.sk_law.proofs.journal.Journal.count_of_got.Goals as goal
 pub returns-in-None : goal.returns-in-None
 returns-in-None c =
     subst (λ (k : Kept). 0 ≡ length (got k.past.journal c.args.number)) c.self.view_is
-    (sym (ap length (c.self.invariant.no_got c.args.number (past_lines c.args.number c.self.invariant (sym c.deref.ensures.value) c.in-None.ensures.lookup.3))))
+    (sym (ap length (c.self.invariant.tied.no_got c.args.number (past_lines c.args.number c.self.invariant.tied (sym c.deref.ensures.value) c.in-None.ensures.lookup.3))))

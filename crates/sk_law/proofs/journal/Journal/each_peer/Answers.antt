@@ -12,4 +12,4 @@ pub returns : goal.returns
 returns c =
     let past : Past = record { journal = c.self.inside.entries.items; memory = c.self.inside.memory } in
     subst (λ (k : Kept). c.all_answer.result ≡ list_all (λ p. answers c.args.question (is_gone k.past.journal p) (said k.setup k.past p)) (peers k.setup)) c.self.view_is
-    (c.all_answer.ensures ∙ ap₂ (λ ls n. all_answer c.args.question ls c.self.inside.setup.number n) c.as_slice.ensures.value (ap length c.as_slice-limit.ensures) ∙ peers_answer past c.args.question c.self.invariant)
+    (c.all_answer.ensures ∙ ap₂ (λ ls n. all_answer c.args.question ls c.self.inside.setup.number n) c.as_slice.ensures.value (ap length c.as_slice-limit.ensures) ∙ peers_answer past c.args.question c.self.invariant.tied)

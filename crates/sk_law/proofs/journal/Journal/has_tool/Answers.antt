@@ -10,4 +10,4 @@ pub returns : goal.returns
 returns c =
     let past : Past = record { journal = c.self.inside.entries.items; memory = c.self.inside.memory } in
     subst (λ (k : Kept). c.some_is_here.result ≡ has_tool k.setup k.past) c.self.view_is
-    (c.some_is_here.ensures ∙ ap₂ (λ ls n. some_here ls n (length ls - n)) c.as_slice.ensures.value (ap length c.as_slice-2.ensures) ∙ tools_are past c.self.invariant)
+    (c.some_is_here.ensures ∙ ap₂ (λ ls n. some_here ls n (length ls - n)) c.as_slice.ensures.value (ap length c.as_slice-2.ensures) ∙ tools_are past c.self.invariant.tied)

@@ -7,4 +7,4 @@ use Rattle.sk_law.proofs.journal.Journal.is_gone.Goals as goal
 pub returns-in-None : goal.returns-in-None
 returns-in-None c =
     subst (λ (k : Kept). false ≡ is_gone k.past.journal c.args.number) c.self.view_is
-    (sym (c.self.invariant.no_gone c.args.number (past_lines c.args.number c.self.invariant (sym c.deref.ensures.value) c.in-None.ensures.lookup.3)))
+    (sym (c.self.invariant.tied.no_gone c.args.number (past_lines c.args.number c.self.invariant.tied (sym c.deref.ensures.value) c.in-None.ensures.lookup.3)))

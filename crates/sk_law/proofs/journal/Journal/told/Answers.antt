@@ -9,4 +9,4 @@ use Rattle.sk_law.proofs.journal.Journal.told.Goals as goal
 pub returns : goal.returns
 returns c =
     let past : Past = record { journal = c.self.inside.entries.items; memory = c.self.inside.memory } in
-    subst (λ (k : Kept). c.in_ok-found.found.items ≡ told k.setup k.past) c.self.view_is (c.in_ok-found.ensures ∙ ap (λ ls. here_in ls c.self.inside.setup.number (length ls)) c.as_slice-lines.ensures.value ∙ told_is past c.self.invariant)
+    subst (λ (k : Kept). c.in_ok-found.found.items ≡ told k.setup k.past) c.self.view_is (c.in_ok-found.ensures ∙ ap (λ ls. here_in ls c.self.inside.setup.number (length ls)) c.as_slice-lines.ensures.value ∙ told_is past c.self.invariant.tied)

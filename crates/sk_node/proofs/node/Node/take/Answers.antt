@@ -1,66 +1,42 @@
-use Rattle.std.specs.Prelude.{◌≡◌, Bool, []}
+use Rattle.std.specs.Prelude.{◌≡◌, Bool}
 use Rattle.std.proofs.Common.{ap, sym, subst}
 use Rattle.sk_law.specs.Past.{Past}
-use Rattle.sk_law.specs.Blocks.{judge_limits, get}
 use Rattle.sk_law.specs.Kept.{Kept}
+use Rattle.sk_node.specs.Known.{Known}
 use Rattle.sk_node.specs.Peers.{Hears}
-use Rattle.sk_node.proofs.Rowing.{part_cut}
-use Rattle.sk_node.proofs.Serving.{went_whole, serves_in, stops_in, cut_in, sound_in, sound_stopped, holds_in, open_in, gets_one}
-use Rattle.sk_node.proofs.Getting.{hears_one}
+use Rattle.sk_node.specs.Takes.{Takes, TakesCut}
+use Rattle.sk_node.proofs.Serving.{serves_in, stops_in, sound_in, sound_stopped, holds_in, open_in}
+use Rattle.sk_node.proofs.Getting.{hears_taken}
 use Rattle.sk_node.proofs.node.Node.take.Goals as goal
 
 pub take-requires : goal.take-requires
-take-requires g c = record { is_open = open_in c.args.self.now c.self.inside.journal c.self.inside.poisoned c.args.peer c.self.view_is c.requires.is_open; bare = c.self.invariant.bare c.if-self.false }
+take-requires g c = record { is_open = open_in c.args.self.now c.self.inside.journal c.self.inside.poisoned c.args.peer c.self.view_is c.requires.is_open }
 
 pub invariant_of-self : goal.invariant_of-self
 invariant_of-self g c =
-    let k : Kept = c.self.inside.journal in
-    let new : Kept = c.take.new.journal in
-    let b : Bool = c.self.inside.poisoned in
-    sound_in c.limits_hold.ensures c.what_is_put_is_bounded.ensures k new b c.if-self.false (c.self.invariant.bare c.if-self.false) (c.self.invariant.bounded c.if-self.false) (went_whole (gets_one k.setup k.past c.args.peer c.args.message (c.self.invariant.bare c.if-self.false).services (open_in c.args.self.now k b c.args.peer c.self.view_is c.requires.is_open)) c.in-Ok.ensures.ok) c.sound.ensures.all c.sound.ensures.within
+    sound_in c.limits_hold.ensures c.what_is_put_is_bounded.ensures c.self.inside.journal c.take.new.journal c.self.inside.poisoned c.if-self.false (λ none. c.self.invariant.bounded none c.if-self.false) c.in-Ok.ensures.ok.went
+    c.sound.ensures.all c.sound.ensures.within
 
 pub invariant_of-self-in-Err : goal.invariant_of-self-in-Err
 invariant_of-self-in-Err g c =
-    let k : Kept = c.self.inside.journal in
-    let new : Kept = c.take.new.journal in
-    let b : Bool = c.self.inside.poisoned in
-    sound_stopped c.what_is_put_is_bounded.ensures k new (part_cut (gets_one k.setup k.past c.args.peer c.args.message (c.self.invariant.bare c.if-self.false).services (open_in c.args.self.now k b c.args.peer c.self.view_is c.requires.is_open)) c.in-Err.ensures.err)
-    (c.self.invariant.bare c.if-self.false) (c.self.invariant.bounded c.if-self.false) c.sound-in-Err.ensures.all c.sound-in-Err.ensures.within
+    sound_stopped c.what_is_put_is_bounded.ensures c.self.inside.journal c.take.new.journal c.in-Err.ensures.err.went (λ none. c.self.invariant.bounded none c.if-self.false) c.sound-in-Err.ensures.all c.sound-in-Err.ensures.within
 
 pub returns-in-Ok-clause-ok : goal.returns-in-Ok-clause-ok
 returns-in-Ok-clause-ok g c =
-    let k : Kept = c.self.inside.journal in
-    let new : Kept = c.take.new.journal in
-    let b : Bool = c.self.inside.poisoned in
-    serves_in c.blocks_only_add.ensures c.turns_come_to_an_end.ensures c.args.self.now k new b c.self.view_is c.if-self.false (went_whole (gets_one k.setup k.past c.args.peer c.args.message (c.self.invariant.bare c.if-self.false).services (open_in c.args.self.now k b c.args.peer c.self.view_is c.requires.is_open)) c.in-Ok.ensures.ok)
+    serves_in c.blocks_only_add.ensures c.turns_come_to_an_end.ensures c.args.self.now c.self.inside.journal c.take.new.journal c.self.inside.poisoned c.self.view_is c.if-self.false c.in-Ok.ensures.ok.went
 
 pub returns-in-Ok-clause-gets : goal.returns-in-Ok-clause-gets
 returns-in-Ok-clause-gets g c =
-    let k : Kept = c.self.inside.journal in
-    let new : Kept = c.take.new.journal in
-    let b : Bool = c.self.inside.poisoned in
-    holds_in (λ S past now. now ≡ judge_limits S (get S c.args.peer c.args.message [] past)) c.args.self.now k b new.past c.self.view_is (ap (λ (x : Kept). x.past) c.in-Ok.ensures.ok.past)
+    subst (λ (o : Known). Takes o.kept c.take.new.journal c.args.peer c.args.message (g.A.App.lists c.args.app.now) (g.A.App.lists c.take.new.app)) c.self.view_is c.in-Ok.ensures.ok
 
 pub returns-in-Ok-clause-hears : goal.returns-in-Ok-clause-hears
 returns-in-Ok-clause-hears g c =
-    let k : Kept = c.self.inside.journal in
-    let new : Kept = c.take.new.journal in
-    let b : Bool = c.self.inside.poisoned in
-    holds_in (λ S past now. Hears S c.args.peer c.args.message past now) c.args.self.now k b new.past c.self.view_is
-    (subst (λ (x : Past). Hears k.setup c.args.peer c.args.message k.past x) (sym (ap (λ (x : Kept). x.past) c.in-Ok.ensures.ok.past)) (hears_one k.setup c.args.peer c.args.message k.past))
+    holds_in (λ S past now. Hears S c.args.peer c.args.message past now) c.args.self.now c.self.inside.journal c.self.inside.poisoned c.take.new.journal.past c.self.view_is
+    (hears_taken c.self.inside.journal c.take.new.journal c.args.peer c.args.message (g.A.App.lists c.args.app.now) (g.A.App.lists c.take.new.app) c.in-Ok.ensures.ok)
 
 pub returns-in-Err-clause-err : goal.returns-in-Err-clause-err
-returns-in-Err-clause-err g c =
-    λ whole.
-    let k : Kept = c.self.inside.journal in
-    let new : Kept = c.take.new.journal in
-    let b : Bool = c.self.inside.poisoned in
-    stops_in c.args.self.now k new b c.self.view_is (part_cut (gets_one k.setup k.past c.args.peer c.args.message (c.self.invariant.bare c.if-self.false).services (open_in c.args.self.now k b c.args.peer c.self.view_is c.requires.is_open)) c.in-Err.ensures.err)
+returns-in-Err-clause-err g c = λ whole. stops_in c.args.self.now c.self.inside.journal c.take.new.journal c.self.inside.poisoned c.self.view_is c.in-Err.ensures.err.went
 
 pub returns-in-Err-clause-cut : goal.returns-in-Err-clause-cut
 returns-in-Err-clause-cut g c =
-    λ whole.
-    let k : Kept = c.self.inside.journal in
-    let new : Kept = c.take.new.journal in
-    let b : Bool = c.self.inside.poisoned in
-    cut_in (λ S past. get S c.args.peer c.args.message [] past) c.args.self.now k new b c.self.view_is c.in-Err.ensures.err
+    λ whole. subst (λ (o : Known). TakesCut o.kept c.take.new.journal c.args.peer c.args.message (g.A.App.lists c.args.app.now) (g.A.App.lists c.take.new.app)) c.self.view_is c.in-Err.ensures.err

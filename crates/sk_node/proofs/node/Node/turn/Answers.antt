@@ -9,7 +9,7 @@ invariant_of-self g c =
 
 pub invariant_of-self-in-Err : goal.invariant_of-self-in-Err
 invariant_of-self-in-Err g c =
-    sound_stopped c.what_is_put_is_bounded.ensures c.self.inside.journal c.turn.new.journal c.in-Err.ensures.err.went (c.self.invariant.bare c.if-self.false) (c.self.invariant.bounded c.if-self.false)
+    sound_stopped c.what_is_put_is_bounded.ensures c.self.inside.journal c.turn.new.journal c.in-Err.ensures.err.went (λ none. c.self.invariant.bounded none c.if-self.false)
     c.sound-in-Err.ensures.all c.sound-in-Err.ensures.within
 
 pub returns-in-Ok-clause-turned : goal.returns-in-Ok-clause-turned

@@ -9,7 +9,7 @@ pub invariant_of-result : goal.invariant_of-result
 invariant_of-result g c =
     let e = c.in_ok-node.ensures in let r = c.requires in record {
       tied = λ fine. new_tied _ c.args.setup e.setup e.made e.out e.sound c.journal.ensures.sound r.number r.own r.few r.size r.fresh
-          (c.in_ok-held.ensures ∙ ap (λ n. replicate n None) c.size.ensures);
+          (c.in_ok-held.ensures ∙ ap (λ n. replicate n None) c.size.ensures) r.services;
     }
 
 pub returns-clause-unturned : goal.returns-clause-unturned

@@ -1,0 +1,14 @@
+use Rattle.std.proofs.Common.{refl, ◌∙◌}
+use Rattle.sk_can.specs.Can.{can_sleep, moved}
+use Rattle.sk_law.specs.Outcomes.{turned}
+use Rattle.sk_node.proofs.CanLaws.{by_call}
+use Rattle.sk_node.proofs.OtherKinds.{not_can}
+use Rattle.sk_node.proofs.services.can.can_sleep.Goals as goal
+
+pub returns-in-Can-clause-outcome : goal.returns-in-Can-clause-outcome
+returns-in-Can-clause-outcome c =
+    by_call can_sleep moved (λ can. refl) c.args.state.now c.in-Can.can c.sleep.new.self c.turned.result c.sleep.result c.in-Can.is c.sleep.ensures.after c.turned.ensures c.sleep.ensures.answer
+
+pub returns-in-Ethernet-clause-outcome : goal.returns-in-Ethernet-clause-outcome
+returns-in-Ethernet-clause-outcome c =
+    c.refused.ensures c.args.state.now ∙ not_can c.args.state.now (λ can. turned c.args.state.now (can_sleep can.state) (moved (can_sleep can.state) can)) c.in-Ethernet.is

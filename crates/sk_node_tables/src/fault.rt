@@ -1,0 +1,50 @@
+//! Why a row has no answer.
+
+use sk_base::{BytesFault, NameFault, WantOfMemory};
+use sk_msg::SpecFault;
+use std::alloc::{AllocError, AllocFailed};
+
+/// Why a row has no answer.
+#[derive(Clone, Copy, Debug, PartialEq, Eq)]
+pub enum Fault {
+    /// It isn't of this form, or it doesn't fit the rows before.
+    BadRow,
+    /// No memory was there.
+    WantOfMemory,
+}
+
+impl From<WantOfMemory> for Fault {
+    fn from(_fault: WantOfMemory) -> Fault {
+        Fault::WantOfMemory
+    }
+}
+
+impl From<AllocError> for Fault {
+    fn from(_fault: AllocError) -> Fault {
+        Fault::WantOfMemory
+    }
+}
+
+impl<T: Drop> From<AllocFailed<T>> for Fault {
+    fn from(_fault: AllocFailed<T>) -> Fault {
+        Fault::WantOfMemory
+    }
+}
+
+impl From<NameFault> for Fault {
+    fn from(_fault: NameFault) -> Fault {
+        Fault::BadRow
+    }
+}
+
+impl From<BytesFault> for Fault {
+    fn from(_fault: BytesFault) -> Fault {
+        Fault::BadRow
+    }
+}
+
+impl From<SpecFault> for Fault {
+    fn from(_fault: SpecFault) -> Fault {
+        Fault::BadRow
+    }
+}
