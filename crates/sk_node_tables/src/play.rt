@@ -100,26 +100,29 @@ impl Play {
 
     /// It is made.
     fn make(&mut self) -> Result<String, Fault> {
-        let node = make_node(self.alloc, self.peers, &self.own)?;
-        let lines = lines_from(self.alloc, &node, 0)?;
-        self.node = Some(node);
-        Ok(lines)
+        self.node = Some(make_node(self.alloc, self.peers, &self.own)?);
+        match &self.node {
+            Some(node) => lines_from(self.alloc, node, 0),
+            None => Err(Fault::BadRow),
+        }
     }
 
     /// It is made, the others are introduced to it, and it runs.
     fn run(&mut self) -> Result<String, Fault> {
         let alloc = self.alloc;
-        let mut node = make_node(alloc, self.peers, &self.own)?;
+        self.node = Some(make_node(alloc, self.peers, &self.own)?);
+        let Some(node) = &mut self.node else {
+            return Err(Fault::BadRow);
+        };
         for peer in 0..self.peers {
             let number = peer.saturating_add(1);
-            introduce(alloc, &mut node, &mut self.player, number, &self.theirs)?;
+            introduce(alloc, node, &mut self.player, number, &self.theirs)?;
         }
         for _turn in 0..20 {
-            if !is_running(&node) {
-                node.turn(&mut self.player)?;
+            if !is_running(node) {
+                turn(node, &mut self.player)?;
             }
         }
-        self.node = Some(node);
         Ok(String::new(alloc))
     }
 
@@ -133,7 +136,7 @@ impl Play {
         let from = node.journal().len();
         for _turn in 0..100 {
             if !self.player.in_step.is_empty() {
-                node.turn(&mut self.player)?;
+                turn(node, &mut self.player)?;
             }
         }
         lines_from(alloc, node, from)
@@ -158,7 +161,7 @@ impl Play {
         if !node.is_open(peer) {
             return Ok(String::from_str(alloc, "  closed\n")?);
         }
-        node.take(peer, message, &mut self.player)?;
+        take(node, &mut self.player, peer, message)?;
         lines_from(alloc, node, from)
     }
 
@@ -183,7 +186,7 @@ impl Play {
             return Err(Fault::BadRow);
         };
         let from = node.journal().len();
-        let turned = node.turn(&mut self.player)?;
+        let turned = turn(node, &mut self.player)?;
         let mut lines = lines_from(alloc, node, from)?;
         lines.push_str(turned_words(turned))?;
         Ok(lines)
@@ -302,6 +305,11 @@ fn introduce(
         }
     }
     take(node, player, peer, Message::services_end())
+}
+
+/// Its next turn.
+fn turn(node: &mut Node, player: &mut Player) -> Result<Turned, Fault> {
+    Ok(node.turn(player)?)
 }
 
 /// It takes a message, where its peer is linked.

@@ -1,4 +1,6 @@
 //! Participants driven by hand. What is expected was worked out by hand first.
+//!
+//! Each function owns one participant at most: a drop is long, and each exit has one.
 
 use crate::play::{
     Seat, carry, command, exchange, expect, lose, make_seat, state_of, turn, turn_on, turn_to,
@@ -111,11 +113,15 @@ fn run_both(a: &mut Seat, b: &mut Seat) -> Result<(), Fail> {
 fn a_peer_is_lost(rt: HostRuntime) -> Result<(), Fail> {
     let alloc = rt.alloc();
     let mut a = one_of_two(&rt, alloc, 0)?;
-    let mut b = one_of_two(&rt, alloc, 1)?;
-    lose_the_other(&rt, alloc, &mut a, &mut b)
+    lose_the_other(&rt, alloc, &mut a)
 }
 
-fn lose_the_other(rt: &impl Abort, alloc: Global, a: &mut Seat, b: &mut Seat) -> Result<(), Fail> {
+fn lose_the_other(rt: &impl Abort, alloc: Global, a: &mut Seat) -> Result<(), Fail> {
+    let mut b = one_of_two(rt, alloc, 1)?;
+    lose_b(rt, alloc, a, &mut b)
+}
+
+fn lose_b(rt: &impl Abort, alloc: Global, a: &mut Seat, b: &mut Seat) -> Result<(), Fail> {
     run_both(a, b)?;
     let from = a.node.journal().len();
     assert!(rt; lose(a, 1)?);
@@ -149,11 +155,15 @@ fn lose_the_other(rt: &impl Abort, alloc: Global, a: &mut Seat, b: &mut Seat) ->
 fn one_of_two_is_aborted(rt: HostRuntime) -> Result<(), Fail> {
     let alloc = rt.alloc();
     let mut a = one_of_two(&rt, alloc, 0)?;
-    let mut b = one_of_two(&rt, alloc, 1)?;
-    abort_one(&rt, alloc, &mut a, &mut b)
+    abort_one(&rt, alloc, &mut a)
 }
 
-fn abort_one(rt: &impl Abort, alloc: Global, a: &mut Seat, b: &mut Seat) -> Result<(), Fail> {
+fn abort_one(rt: &impl Abort, alloc: Global, a: &mut Seat) -> Result<(), Fail> {
+    let mut b = one_of_two(rt, alloc, 1)?;
+    abort_a(rt, alloc, a, &mut b)
+}
+
+fn abort_a(rt: &impl Abort, alloc: Global, a: &mut Seat, b: &mut Seat) -> Result<(), Fail> {
     run_both(a, b)?;
     let from_a = a.node.journal().len();
     let from_b = b.node.journal().len();
@@ -229,13 +239,21 @@ fn until_of(seat: &Seat) -> u64 {
 fn one_of_three_stops_in_its_step(rt: HostRuntime) -> Result<(), Fail> {
     let alloc = rt.alloc();
     let mut a = one_of_three(&rt, alloc, 0, 2_000_000)?;
-    let mut b = one_of_three(&rt, alloc, 1, 3_000_000)?;
-    let mut c = one_of_three(&rt, alloc, 2, 4_000_000)?;
     a.app.stops_in = 2;
-    stop_one(&rt, alloc, &mut a, &mut b, &mut c)
+    stop_beside_two(&rt, alloc, &mut a)
 }
 
-fn stop_one(
+fn stop_beside_two(rt: &impl Abort, alloc: Global, a: &mut Seat) -> Result<(), Fail> {
+    let mut b = one_of_three(rt, alloc, 1, 3_000_000)?;
+    stop_beside(rt, alloc, a, &mut b)
+}
+
+fn stop_beside(rt: &impl Abort, alloc: Global, a: &mut Seat, b: &mut Seat) -> Result<(), Fail> {
+    let mut c = one_of_three(rt, alloc, 2, 4_000_000)?;
+    stop_a(rt, alloc, a, b, &mut c)
+}
+
+fn stop_a(
     rt: &impl Abort,
     alloc: Global,
     a: &mut Seat,
