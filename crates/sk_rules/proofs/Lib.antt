@@ -1,0 +1,9 @@
+pub mod OutcomeLaws
+pub mod JsonLaws
+pub mod FieldLaws
+pub mod ListLaws
+pub mod VarLaws
+pub mod ItemLaws
+pub mod ServiceLaws
+pub mod ActionRules
+pub mod RuleRules

@@ -1,0 +1,12 @@
+pub mod Faults
+pub mod Outcome
+pub mod Words
+pub mod Fields
+pub mod Orders
+pub mod Places
+pub mod Verbs
+pub mod Keys
+pub mod Scripts
+pub mod Vars
+pub mod Actions
+pub mod Rules
