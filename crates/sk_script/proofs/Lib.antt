@@ -1,8 +1,13 @@
+pub mod OutcomeLaws
+pub mod FieldLaws
+pub mod ItemLaws
 pub mod OrderLaws
 pub mod PlacingLaws
 pub mod RequiredLaws
-pub mod JsonLaws
-pub mod FieldLaws
-pub mod ListLaws
+pub mod ServiceLaws
+pub mod ConfiguredLaws
+pub mod ScopeLaws
+pub mod PartLaws
 pub mod WholeLaws
+pub mod ConfigFaultLaws
 pub mod FaultLaws

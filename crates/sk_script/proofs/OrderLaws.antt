@@ -10,7 +10,7 @@ use Rattle.std.proofs.lemmas.Cmp.{nat_list_cmp_total}
 use Rattle.std.proofs.lemmas.Map.Text.{is_eq-slice_cmp}
 use Rattle.sk_msg.specs.Each.{each_after}
 use Rattle.sk_msg.specs.Rules.{is_new_name}
-use Rattle.sk_script.specs.Orders.{is_before, are_sorted}
+use Rattle.sk_rules.specs.Orders.{is_before, are_sorted}
 
 -- it is what `<` of two texts answers
 pub before_is : (xs ys : List ℕ) → is_lt (slice_cmp nat_cmp xs ys) ≡ is_before xs ys

@@ -1,7 +1,8 @@
-pub mod Orders
+pub mod Keys
+pub mod Words
+pub mod Services
 pub mod Scenarios
 pub mod Placing
-pub mod Keys
-pub mod Faults
-pub mod Words
+pub mod Parts
 pub mod Reading
+pub mod Closed

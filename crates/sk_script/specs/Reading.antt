@@ -1,210 +1,104 @@
--- What the JSON of a scenario reads as: the first fault in the order in which a file is checked, or
--- the scenario.
-use Rattle.std.specs.Prelude.{ℕ, ◌+◌, ◌^◌, Bool, true, false, List, [], ◌∷◌, ◌++◌, Option, Some, None, option_map, unwrap_or, Result, Ok, Err, if◌then◌else◌}
-use Rattle.serde_json.specs.Data.{Data, Items, no_items, item}
+-- What the bytes of a scenario read as: the scenario with its warnings, or the first fault in the order in which a file is
+-- checked.
+use Rattle.std.specs.Prelude.{ℕ, ◌+◌, ◌^◌, not, List, [], ◌∷◌, ◌++◌, map, Option, Some, None, Result, Ok, Err, ⊤}
+use Rattle.std.specs.List.{flat_map}
+use Rattle.serde_json.specs.Data.{Data, Items}
 use Rattle.serde_json.specs.Find.{as_str}
 use Rattle.sk_base.specs.Ranges.{is_name}
 use Rattle.sk_msg.specs.Rules.{is_new_name}
+use Rattle.sk_config.specs.Json.{json_of}
 use Rattle.sk_config.specs.Paths.{key_at, index_at}
-use Rattle.sk_config.specs.Json.{json_of, text_at, number_at, list_at, items_at, unknown_keys, first_of, object_fault, string_fault, text_fault, missing_fault, number_fault, list_fault}
+use Rattle.sk_rules.specs.Fields.{object_read, needed, needed_number, list_read, items_read}
+use Rattle.sk_rules.specs.Outcome.{◌>>=◌, ◌>>◌, must, found}
+use Rattle.sk_rules.specs.declared.fault.Rule.TheVariants as rules
+use Rattle.sk_rules.specs.declared.fault.ScenarioFault.{ScenarioFault}
+use Rattle.sk_rules.specs.declared.fault.ScenarioFault.TheVariants.{NotJson}
+use Rattle.sk_script.specs.Keys.{knows, duration_key, required_key, participants_key, name_key}
+use Rattle.sk_script.specs.Parts.{part_read}
 use Rattle.sk_script.specs.Placing.{in_order}
-use Rattle.sk_script.specs.Scenarios.{PartValue, ScenarioValue, has_name, is_coordinated_in, coordinated_names}
-use Rattle.sk_script.specs.Keys.{knows, duration_key, required_key, participants_key, name_key, mode_key, step_key}
-use Rattle.sk_script.specs.Faults.{scenario_faults}
-use Rattle.sk_script.specs.Words.{mode_of, word_at, word_fault}
-use Rattle.sk_script.specs.declared.fault.Rule.TheVariants as rules
-use Rattle.sk_script.specs.declared.fault.ScenarioFault.{ScenarioFault}
-use Rattle.sk_script.specs.declared.fault.ScenarioFault.TheVariants.{NotJson, Refused}
-use Rattle.sk_script.specs.declared.keys.Object.{Object}
-use Rattle.sk_script.specs.declared.keys.Object.TheVariants.{Root, Participant}
-use Rattle.sk_script.specs.declared.scenario.ScenarioRead.{ScenarioRead}
-use Rattle.sk_script.specs.declared.word.Mode.{Mode}
-use Rattle.sk_script.specs.declared.word.Mode.TheVariants.{Coordinated, Autonomous}
+use Rattle.sk_script.specs.Scenarios.{PartValue, PartReadValue, ScenarioReadValue, has_name, is_coordinated_in, coordinated_names}
+use Rattle.sk_script.specs.declared.keys.Object.TheVariants.{Root}
 
--- ---- what it says
+-- ---- required names
 
--- the text of a participant's name
-unfoldable pub name_of : Data → List ℕ
-name_of d = unwrap_or (text_at name_key d) []
+-- a name behind these, none of which it is
+abbrev pub required_name_read : List ℕ → List (List ℕ) → Data → Result (List ℕ) ScenarioFault
+required_name_read path earlier d = do
+  name ← found path rules.WrongType (as_str d)
+  must path rules.BadText (is_name name)
+  must path rules.NameTaken (is_new_name earlier name)
+  Ok name
 
--- a participant is coordinated unless its mode says otherwise
-abbrev pub is_coordinated : Option Mode → Bool
-is_coordinated None = true
-is_coordinated (Some Coordinated) = true
-is_coordinated (Some Autonomous) = false
+abbrev pub names_in : List ℕ → Option Items → Result (Option (List (List ℕ))) ScenarioFault
+names_in path None = Ok None
+names_in path (Some ds) = do
+  names ← items_read required_name_read path [] 0 ds
+  Ok (Some names)
 
--- a participant
-unfoldable pub part_of : Data → PartValue
-part_of d = record { name = name_of d; coordinated = is_coordinated (word_at mode_of mode_key d); step = number_at step_key d }
+-- 1 to 32 names, where the file has them
+unfoldable pub required_read : List ℕ → Data → Result (Option (List (List ℕ))) ScenarioFault
+required_read path d = do
+  given ← list_read 1 32 path required_key d
+  names_in (key_at path required_key) given
 
--- the participants that are the items of a list
-abbrev pub parts_in : Items → List PartValue
-parts_in no_items = []
-parts_in (item d ds) = part_of d ∷ parts_in ds
+-- ---- participants
 
--- the participants as the file has them
-unfoldable pub parts_of : Data → List PartValue
-parts_of d = parts_in (items_at participants_key d)
+-- 1 to 32 participants
+unfoldable pub participants_read : List ℕ → Data → Result (List PartReadValue) ScenarioFault
+participants_read path d = do
+  given ← list_read 1 32 path participants_key d
+  items ← needed path participants_key given
+  items_read (λ at earlier v. part_read at v) (key_at path participants_key) [] 0 items
 
--- the text that a value is
-unfoldable pub text_of : Data → List ℕ
-text_of d = unwrap_or (as_str d) []
+-- none of these, the first of which has this index, has the name of one before it
+abbrev pub names_differ : List ℕ → List PartReadValue → ℕ → List PartReadValue → Result ⊤ ScenarioFault
+names_differ path earlier index [] = Ok tt
+names_differ path earlier index (one ∷ reads) = do
+  must (key_at (index_at path index) name_key) rules.NameTaken (not (has_name earlier one.part.name))
+  names_differ path (earlier ++ one ∷ []) (index + 1) reads
 
--- the texts that are the items of a list
-abbrev pub texts_in : Items → List (List ℕ)
-texts_in no_items = []
-texts_in (item d ds) = text_of d ∷ texts_in ds
+-- each of these names, the first of which has this index, is that of a coordinated participant
+abbrev pub all_coordinated : List ℕ → List PartValue → ℕ → List (List ℕ) → Result ⊤ ScenarioFault
+all_coordinated path parts index [] = Ok tt
+all_coordinated path parts index (name ∷ names) = do
+  must (index_at path index) rules.NoSuchParticipant (is_coordinated_in parts name)
+  all_coordinated path parts (index + 1) names
 
--- the required names, where the file has them
-unfoldable pub required_of : Data → Option (List (List ℕ))
-required_of d = option_map texts_in (list_at required_key d)
+-- the required names: those that are given, or else those of all that are coordinated
+abbrev pub required_of : List ℕ → List PartValue → Option (List (List ℕ)) → Result (List (List ℕ)) ScenarioFault
+required_of path parts None = Ok (coordinated_names parts)
+required_of path parts (Some names) = do
+  all_coordinated path parts 0 names
+  Ok names
 
--- the length of the run
-unfoldable pub duration_of : Data → ℕ
-duration_of d = unwrap_or (number_at duration_key d) 0
+abbrev pub parts_of : List PartReadValue → List PartValue
+parts_of reads = map (λ read. read.part) reads
 
--- the whole: participants in order, and without required names those of all that are coordinated
-unfoldable pub scenario_of : Data → ScenarioValue
-scenario_of d = record {
-  duration = duration_of d;
-  required = unwrap_or (required_of d) (coordinated_names (in_order (parts_of d)));
-  participants = in_order (parts_of d);
-}
+abbrev pub uris_of : List PartReadValue → List (Option (List ℕ))
+uris_of reads = map (λ read. read.uri) reads
 
--- ---- its first fault: of one object
+-- ---- the whole
 
--- the first of these keys, which the object may not have
-abbrev pub first_unknown : List (List ℕ) → Option ScenarioFault
-first_unknown [] = None
-first_unknown (path ∷ paths) = Some (Refused path rules.UnknownKey)
-
--- an object, of which each key is known
-unfoldable pub entry_fault : Object → List ℕ → Data → Option ScenarioFault
-entry_fault object path d = first_of (
-    object_fault scenario_faults path d
-    ∷ first_unknown (unknown_keys (knows object) path d)
-    ∷ [])
-
--- ---- of a participant
-
--- the name, which has to be there
-unfoldable pub name_fault : List ℕ → Data → Option ScenarioFault
-name_fault path d = first_of (
-    text_fault scenario_faults is_name path name_key d
-    ∷ missing_fault scenario_faults path name_key d
-    ∷ [])
-
--- a participant, key by key
-unfoldable pub part_fault : List ℕ → Data → Option ScenarioFault
-part_fault path d = first_of (
-    entry_fault Participant path d
-    ∷ name_fault path d
-    ∷ word_fault scenario_faults mode_of path mode_key d
-    ∷ number_fault scenario_faults 1 (2 ^ 60) path step_key d
-    ∷ [])
-
--- the participants of a list, the first of which has this index
-abbrev pub parts_fault : List ℕ → ℕ → Items → Option ScenarioFault
-parts_fault path index no_items = None
-parts_fault path index (item d ds) = first_of (
-    part_fault (index_at path index) d
-    ∷ parts_fault path (index + 1) ds
-    ∷ [])
-
--- ---- of the required names
-
--- a name that stands behind these
-unfoldable pub required_name_fault : List ℕ → List (List ℕ) → Data → Option ScenarioFault
-required_name_fault path earlier d = first_of (
-    string_fault scenario_faults is_name path (as_str d)
-    ∷ (if is_new_name earlier (text_of d) then None else Some (Refused path rules.NameTaken))
-    ∷ [])
-
--- the names of a list, the first of which has this index and stands behind these
-abbrev pub required_names_fault : List ℕ → List (List ℕ) → ℕ → Items → Option ScenarioFault
-required_names_fault path earlier index no_items = None
-required_names_fault path earlier index (item d ds) = first_of (
-    required_name_fault (index_at path index) earlier d
-    ∷ required_names_fault path (earlier ++ text_of d ∷ []) (index + 1) ds
-    ∷ [])
-
--- ---- of the file
-
--- the length of the run, at most 2^61
-unfoldable pub duration_fault : List ℕ → Data → Option ScenarioFault
-duration_fault path d = first_of (
-    number_fault scenario_faults 0 (2 ^ 61) path duration_key d
-    ∷ missing_fault scenario_faults path duration_key d
-    ∷ [])
-
--- the list of required names, if there is one
-unfoldable pub required_fault : List ℕ → Data → Option ScenarioFault
-required_fault path d = first_of (
-    list_fault scenario_faults 1 32 path required_key d
-    ∷ required_names_fault (key_at path required_key) [] 0 (items_at required_key d)
-    ∷ [])
-
--- the list of participants
-unfoldable pub participants_fault : List ℕ → Data → Option ScenarioFault
-participants_fault path d = first_of (
-    list_fault scenario_faults 1 32 path participants_key d
-    ∷ missing_fault scenario_faults path participants_key d
-    ∷ parts_fault (key_at path participants_key) 0 (items_at participants_key d)
-    ∷ [])
-
--- ---- of several participants
-
--- the first of these whose name one before it has, where the first has this index and stands behind others
-abbrev pub twice_fault : List ℕ → List PartValue → ℕ → List PartValue → Option ScenarioFault
-twice_fault path earlier index [] = None
-twice_fault path earlier index (part ∷ parts) =
-    if has_name earlier part.name then Some (Refused (key_at (index_at path index) name_key) rules.NameTaken)
-    else twice_fault path (earlier ++ part ∷ []) (index + 1) parts
-
--- the first of these names that no coordinated participant has, where the first has this index
-abbrev pub absent_fault : List ℕ → List PartValue → ℕ → List (List ℕ) → Option ScenarioFault
-absent_fault path parts index [] = None
-absent_fault path parts index (name ∷ names) =
-    if is_coordinated_in parts name then absent_fault path parts (index + 1) names
-    else Some (Refused (index_at path index) rules.NoSuchParticipant)
-
--- two participants of one name
-unfoldable pub names_fault : List ℕ → Data → Option ScenarioFault
-names_fault path d = twice_fault (key_at path participants_key) [] 0 (parts_of d)
-
--- a required name without a coordinated participant
-unfoldable pub unmet_fault : List ℕ → Data → Option ScenarioFault
-unmet_fault path d = absent_fault (key_at path required_key) (in_order (parts_of d)) 0 (unwrap_or (required_of d) [])
-
--- ---- of all
-
--- the checks in their order
-unfoldable pub fault_of : List ℕ → Data → Option ScenarioFault
-fault_of path d = first_of (
-    entry_fault Root path d
-    ∷ duration_fault path d
-    ∷ required_fault path d
-    ∷ participants_fault path d
-    ∷ names_fault path d
-    ∷ unmet_fault path d
-    ∷ [])
-
--- ---- the reading
-
--- a fault, or else this scenario without a warning
-abbrev pub reading_or : Option ScenarioFault → ScenarioValue → Result ScenarioRead ScenarioFault
-reading_or (Some fault) scenario = Err fault
-reading_or None scenario = Ok (record { scenario = scenario; warnings = [] })
-
--- a value, which stands at the root of the file
-unfoldable pub reading_at : List ℕ → Data → Result ScenarioRead ScenarioFault
-reading_at path d = reading_or (fault_of path d) (scenario_of d)
+-- the warnings stand in the order in which the file has the participants
+unfoldable pub scenario_read : List ℕ → Data → Result ScenarioReadValue ScenarioFault
+scenario_read path d = do
+  object_read (knows Root) path d
+  duration ← needed_number 0 (2 ^ 61) path duration_key d
+  given ← required_read path d
+  reads ← participants_read path d
+  names_differ (key_at path participants_key) [] 0 reads
+  required ← required_of (key_at path required_key) (parts_of (in_order reads)) given
+  Ok (record {
+    scenario = record { duration = duration; required = required; participants = parts_of (in_order reads) };
+    uris = uris_of (in_order reads);
+    warnings = flat_map (λ read. read.warnings) reads;
+  })
 
 -- the value that bytes are, if they are one
-abbrev pub reading_from : Option Data → Result ScenarioRead ScenarioFault
+abbrev pub reading_from : Option Data → Result ScenarioReadValue ScenarioFault
 reading_from None = Err NotJson
-reading_from (Some d) = reading_at [] d
+reading_from (Some d) = scenario_read [] d
 
 -- the bytes of a file
-unfoldable pub reading : List ℕ → Result ScenarioRead ScenarioFault
+unfoldable pub reading : List ℕ → Result ScenarioReadValue ScenarioFault
 reading bytes = reading_from (json_of bytes)

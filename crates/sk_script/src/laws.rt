@@ -5,15 +5,15 @@ ghost use Rattle.std.specs.List.Sorted.{IsPermutation};
 ghost use Rattle.sk_msg.specs.Each.{each_after};
 ghost use Rattle.sk_msg.specs.Rules.{is_new_name};
 ghost use Rattle.sk_config.specs.Json.{json_of};
-ghost use Rattle.sk_script.specs.Orders.{are_sorted};
+ghost use Rattle.sk_rules.specs.Orders.{are_sorted};
+ghost use Rattle.sk_rules.specs.declared.fault.ScenarioFault.TheVariants.{NotJson, WantOfMemory};
 ghost use Rattle.sk_script.specs.Placing.{in_order};
 ghost use Rattle.sk_script.specs.Reading.{reading};
-ghost use Rattle.sk_script.specs.Scenarios.{PartValue};
-ghost use Rattle.sk_script.specs.declared.fault.ScenarioFault.TheVariants.{NotJson, WantOfMemory};
+ghost use Rattle.sk_script.specs.Scenarios.{PartReadValue};
 
 /// Participants in order are the same ones.
 pub fn same_participants()
-    ensures { (parts : List PartValue) → IsPermutation parts (in_order parts) }
+    ensures { (reads : List PartReadValue) → IsPermutation reads (in_order reads) }
 {}
 
 /// Names in the order of bytes are distinct.

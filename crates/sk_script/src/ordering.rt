@@ -2,26 +2,26 @@
 
 ghost use Rattle.std.specs.Prelude.{◌≡◌, ◌≤◌, IfOk, OnOk, length, not};
 ghost use Rattle.std.specs.List.{position};
-ghost use Rattle.sk_script.specs.Orders.{is_before};
+ghost use Rattle.sk_rules.specs.Orders.{is_before};
 ghost use Rattle.sk_script.specs.Placing as spec;
 
-use crate::scenario::Part;
+use crate::scenario::PartRead;
 use sk_base::{Name, WantOfMemory};
 use std::alloc::Global;
 
 /// These participants in the byte order of their names.
-pub fn in_order(alloc: Global, parts: Vec<Part>) -> Result<Vec<Part>, WantOfMemory>
-    ensures { IfOk result (λ ordered. ordered.items ≡ spec.in_order parts.items) }
+pub fn in_order(alloc: Global, reads: Vec<PartRead>) -> Result<Vec<PartRead>, WantOfMemory>
+    ensures { IfOk result (λ ordered. ordered.items ≡ spec.in_order reads.items) }
 {
-    let mut ordered = Vec::with_capacity(alloc, parts.len())?;
-    for part in parts {
-        put_in_place(&mut ordered, part)?;
+    let mut ordered = Vec::with_capacity(alloc, reads.len())?;
+    for one in reads {
+        put_in_place(&mut ordered, one)?;
     }
     Ok(ordered)
 }
 
 /// Puts a participant behind those whose names come before its own.
-fn put_in_place(ordered: &mut Vec<Part>, part: Part) -> Result<(), WantOfMemory>
+fn put_in_place(ordered: &mut Vec<PartRead>, part: PartRead) -> Result<(), WantOfMemory>
     ensures { OnOk result (ordered.new.items ≡ spec.put_in_place part ordered.old.items) }
 {
     let place = place_of(ordered, &part);
@@ -31,7 +31,7 @@ fn put_in_place(ordered: &mut Vec<Part>, part: Part) -> Result<(), WantOfMemory>
 
 /// How many of these stand before a participant.
 #[tactic(auto, using(crate::proofs::PlacingLaws::place_is, crate::proofs::PlacingLaws::place_within))]
-fn place_of(ordered: &[Part], part: &Part) -> usize
+fn place_of(ordered: &[PartRead], part: &PartRead) -> usize
     ensures place { result ≡ spec.place part.now ordered.now }
     ensures within { result ≤ length ordered.now }
 {
@@ -39,12 +39,12 @@ fn place_of(ordered: &[Part], part: &Part) -> usize
 }
 
 /// The place of the first of these whose name doesn't come before the participant's.
-fn first_behind(ordered: &[Part], part: &Part) -> Option<usize>
-    ensures { result ≡ position (λ one. not (is_before one.name part.now.name)) ordered.now }
+fn first_behind(ordered: &[PartRead], part: &PartRead) -> Option<usize>
+    ensures { result ≡ position (λ one. not (is_before one.part.name part.now.part.name)) ordered.now }
 {
     ordered
         .iter()
-        .position(|one| !is_before(&one.name, &part.name))
+        .position(|one| !is_before(&one.part.name, &part.part.name))
 }
 
 /// Whether the name comes before the other in the order of bytes.

@@ -8,6 +8,7 @@ use Rattle.std.proofs.lemmas.Bool.Decides.{nat_tests}
 use Rattle.std.proofs.lemmas.List.{map-append, length-map}
 use Rattle.std.proofs.lemmas.Slice.Eq.{bytes_eq-Decides}
 use Rattle.std.proofs.lemmas.Option.{slice_get_read, slice_get_within, slice_get-get_or, same_Some, none-some}
+use Rattle.sk_base.specs.Ranges.{is_name}
 use Rattle.sk_msg.specs.Each.{each_after}
 use Rattle.sk_msg.specs.Rules.{is_new_name, is_step_size}
 use Rattle.sk_config.specs.Configs.{is_none_or}
@@ -16,8 +17,12 @@ use Rattle.sk_law.specs.World.{is_before as is_before_in_world, are_sorted as ar
 use Rattle.sk_mesh.specs.Places.{Account, Place, place, size, IsMesh}
 use Rattle.sk_mesh.specs.Ends.{IsUnused}
 use Rattle.sk_node.specs.declared.app.App as App
-use Rattle.sk_script.specs.Orders.{is_before, are_sorted}
-use Rattle.sk_script.specs.Scenarios.{PartValue, ScenarioValue, names_of, is_part, is_duration, is_participant_count, are_required, is_scenario}
+use Rattle.sk_rules.specs.Orders.{is_before, are_sorted}
+use Rattle.sk_rules.specs.Scripts.{is_action}
+use Rattle.sk_rules.specs.Vars.{are_vars}
+use Rattle.sk_rules.specs.declared.place.Place.TheVariants.{Ready}
+use Rattle.sk_script.specs.Services.{are_services}
+use Rattle.sk_script.specs.Scenarios.{PartValue, ScenarioValue, scope_of, names_of, is_script, is_part, is_duration, is_participant_count, are_required, is_scenario}
 use Rattle.sk_sim.specs.declared.seat.Seat.{Seat}
 use Rattle.sk_sim.specs.Wiring.{IsFresh}
 use Rattle.sk_sim.specs.Cards.{Card}
@@ -122,7 +127,9 @@ rules S h =
 -- the steps of a participant have a size
 pub sized : (part : PartValue) → IsTrue (is_part part) → IfSome part.step (λ size. IsTrue (is_step_size size))
 unfolding is_part
-sized part h = on part.step (and_parts _ (is_none_or is_step_size part.step) h).1
+sized part h =
+    let rest : (is_none_or is_step_size part.step && (are_services part.services && (are_vars part.vars && (list_all (is_action (scope_of part) Ready) part.ready && is_script (scope_of part) part.script)))) ≡ true = (and_parts (is_name part.name) _ h).1 in
+    on part.step (and_parts (is_none_or is_step_size part.step) _ rest).0
   where
     on : (step : Option ℕ) → is_none_or is_step_size step ≡ true → IfSome step (λ size. IsTrue (is_step_size size))
     on None e = tt

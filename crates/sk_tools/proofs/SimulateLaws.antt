@@ -4,10 +4,9 @@ use Rattle.std.specs.List.{position_or_len}
 use Rattle.std.proofs.lemmas.List.{length-map}
 use Rattle.sk_base.specs.Statuses.{status_number}
 use Rattle.sk_msg.specs.declared.entry.Entry.{Entry}
-use Rattle.sk_script.specs.Reading.{reading}
+use Rattle.sk_tools.specs.Runnable.{runnable}
 use Rattle.sk_law.specs.World.{Member}
-use Rattle.sk_script.specs.Scenarios.{ScenarioValue}
-use Rattle.sk_script.specs.declared.scenario.ScenarioRead.{ScenarioRead}
+use Rattle.sk_script.specs.Scenarios.{ScenarioValue, ScenarioReadValue}
 use Rattle.sk_sim.specs.Simulations.{IsSimulation}
 use Rattle.sk_text.specs.Lines.{world_text}
 use Rattle.sk_tools.specs.Outside.{Says, Explains}
@@ -46,7 +45,7 @@ known Stalled = refl
 -- what `simulate` leaves is what its call promises
 pub simulate_ran : (file : List ℕ) (files : FilesSeen) (out err : SinkSeen) (ended : SimulateStatus)
     → CountsReads ended files.faults files.faults_now → CountsWrites ended out.faults out.faults_now
-    → (files.tells ≡ true → Leaves ended file (found_in reading (files.content file)) out err)
+    → (files.tells ≡ true → Leaves ended file (found_in runnable (files.content file)) out err)
     → IsSimulateCall file files out err (status_number (exit_of ended))
 simulate_ran file files out err ended reads writes leaves = record {
   known = known ended;
@@ -67,7 +66,7 @@ pub simulate_unrun : (file : List ℕ) (files : FilesSeen) (out err : SinkSeen) 
 simulate_unrun file files out err reads writes same = record {
   known = refl;
   counted = record { read_fault = λ e. absurd (omega arith); reads_steady = λ _. reads; write_fault = λ e. absurd (omega arith); writes_steady = λ _. writes };
-  leaves = λ told. (OutOfMemory, refl, short_none (found_in reading (files.content file)) out (λ _. same));
+  leaves = λ told. (OutOfMemory, refl, short_none (found_in runnable (files.content file)) out (λ _. same));
 }
 
 -- ## A file that wasn't read
@@ -75,15 +74,15 @@ simulate_unrun file files out err reads writes same = record {
 pub unread : (file : List ℕ) (content : Option (List ℕ)) (refused : ReadRefused) (ended : SimulateStatus) (out err : SinkSeen) → Explains content refused
     → EndsUnread refused ended → (out.tells ≡ true → out.written_now ≡ out.written)
     → (ended ≢ OutOfMemory → Says err.tells err.faults err.faults_now err.written err.written_now (said_unread file refused))
-    → Leaves ended file (found_in reading content) out err
+    → Leaves ended file (found_in runnable content) out err
 unread file content why.Absent ended out err explains ends same said =
-    rw (ends, found_none reading content explains) (refl, record { nothing = same; said = said (λ e. let no : BadFile ≡ OutOfMemory = sym ends ∙ e in absurd cc) })
+    rw (ends, found_none runnable content explains) (refl, record { nothing = same; said = said (λ e. let no : BadFile ≡ OutOfMemory = sym ends ∙ e in absurd cc) })
 unread file content why.TooLong ended out err explains ends same said =
-    rw (ends, found_long reading content explains) (refl, record { nothing = same; said = said (λ e. let no : BadFile ≡ OutOfMemory = sym ends ∙ e in absurd cc) })
+    rw (ends, found_long runnable content explains) (refl, record { nothing = same; said = said (λ e. let no : BadFile ≡ OutOfMemory = sym ends ∙ e in absurd cc) })
 unread file content why.Fault ended out err explains ends same said =
     rw ends (record { nothing = same; said = said (λ e. let no : ReadFault ≡ OutOfMemory = sym ends ∙ e in absurd cc) })
 unread file content why.WantOfMemory ended out err explains ends same said =
-    rw ends (short_none (found_in reading content) out same)
+    rw ends (short_none (found_in runnable content) out same)
 
 -- ## Runs
 
@@ -105,7 +104,7 @@ counted ended S names journals run =
     ∙ sym (ap length run.journals_are)
 
 -- what a run left is what the command leaves of a scenario
-pub ran_to : (file : List ℕ) (read : ScenarioRead) (ended : SimulateStatus) (names : List (List ℕ)) (journals : List (List Entry)) (out err : SinkSeen) (told : Bool) (faults : ℕ) (written : List ℕ)
+pub ran_to : (file : List ℕ) (read : ScenarioReadValue) (ended : SimulateStatus) (names : List (List ℕ)) (journals : List (List Entry)) (out err : SinkSeen) (told : Bool) (faults : ℕ) (written : List ℕ)
     → IsSimulation true read.scenario names journals → IsRunStatus ended journals
     → (out.tells ≡ true → LeavesRun ended (world_text names journals) out.written out.written_now)
     → Says err.tells err.faults faults err.written written (warning_lines read.warnings) → told ≡ err.tells
@@ -124,7 +123,7 @@ ran_to file read ReadFault names journals out err told faults written run status
 ran_to file read Stalled names journals out err told faults written run status left warned same said = absurd status
 
 -- the same of a run that stalled
-pub stalled_to : (read : ScenarioRead) (names : List (List ℕ)) (journals : List (List Entry)) (out err : SinkSeen) (told : Bool) (faults : ℕ) (written : List ℕ)
+pub stalled_to : (read : ScenarioReadValue) (names : List (List ℕ)) (journals : List (List Entry)) (out err : SinkSeen) (told : Bool) (faults : ℕ) (written : List ℕ)
     → IsSimulation false read.scenario names journals → (out.tells ≡ true → out.written_now ≡ out.written)
     → Says err.tells err.faults faults err.written written (warning_lines read.warnings) → told ≡ err.tells
     → Says told faults err.faults_now written err.written_now (run_remarks Stalled names journals)

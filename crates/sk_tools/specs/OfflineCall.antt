@@ -8,7 +8,7 @@ use Rattle.sk_tools.specs.Found.{found_in, IsJudged, IsOutput}
 use Rattle.sk_tools.specs.Check.{IsCheckStatus, checked_text, said_by}
 use Rattle.sk_tools.specs.Jobs.{Job, Check, Simulate, offline_job}
 use Rattle.sk_tools.specs.Simulate.{IsSimulateStatus, LeavesBy}
-use Rattle.sk_script.specs.Reading.{reading as scenario_reading}
+use Rattle.sk_tools.specs.Runnable.{runnable}
 use Rattle.sk_tools.specs.Seen.{FilesSeen, SinkSeen}
 
 -- the count of the files' faults rose with status 3, that of the output's with status 4, and with no other
@@ -34,8 +34,8 @@ pub record IsCheckCall (file : List ℕ) (files : FilesSeen) (out err : SinkSeen
 pub record IsSimulateCall (file : List ℕ) (files : FilesSeen) (out err : SinkSeen) (answer : ℕ) : Type 0 where
   pub known : IsSimulateStatus answer
   pub counted : IsCounted files out answer
-  -- what the file holds is judged by the status: a scenario, or not; and what is left of the run of one
-  pub leaves : files.tells ≡ true → LeavesBy answer file (found_in scenario_reading (files.content file)) out err
+  -- what the file holds is judged by the status: a scenario that can be run, or not; and what is left of the run of one
+  pub leaves : files.tells ≡ true → LeavesBy answer file (found_in runnable (files.content file)) out err
 
 -- what is done of a job: a record for each
 abbrev pub Does : Job → FilesSeen → SinkSeen → SinkSeen → ℕ → Type 0

@@ -6,10 +6,9 @@ use Rattle.sk_base.specs.declared.status.ExitStatus.TheVariants as exit
 use Rattle.sk_base.specs.Statuses.{status_number}
 use Rattle.sk_base.specs.Talk.{Rose}
 use Rattle.sk_msg.specs.declared.entry.Entry.{Entry}
-use Rattle.sk_script.specs.Faults.{fault_path, fault_rule, rule_text}
-use Rattle.sk_script.specs.Scenarios.{ScenarioValue}
-use Rattle.sk_script.specs.declared.fault.ScenarioFault.{ScenarioFault}
-use Rattle.sk_script.specs.declared.scenario.ScenarioRead.{ScenarioRead}
+use Rattle.sk_rules.specs.Faults.{fault_path, fault_rule, rule_text}
+use Rattle.sk_script.specs.Scenarios.{ScenarioValue, ScenarioReadValue}
+use Rattle.sk_rules.specs.declared.fault.ScenarioFault.{ScenarioFault}
 use Rattle.sk_sim.specs.Simulations.{IsSimulation, is_aborting}
 use Rattle.sk_text.specs.Lines.{world_text}
 use Rattle.sk_tools.specs.Outside.{IsPartWritten, Says}
@@ -23,7 +22,7 @@ use Rattle.sk_tools.specs.declared.simulate.status.SimulateStatus.TheVariants.{D
 
 -- what a path leads to, read as a scenario
 abbrev pub FoundScenario : Type 0
-FoundScenario = Found ScenarioFault ScenarioRead
+FoundScenario = Found ScenarioFault ScenarioReadValue
 
 -- ## What is said of the file
 
@@ -34,7 +33,7 @@ broken_rule fault = unwrap_or (option_map rule_text (fault_rule fault)) []
 -- of what was found
 abbrev pub remarks : List ℕ → FoundScenario → List ℕ
 remarks file found =
-    remarks_by (λ (fault : ScenarioFault). complaint (fault_path fault) (broken_rule fault)) (λ (read : ScenarioRead). warning_lines read.warnings) file found
+    remarks_by (λ (fault : ScenarioFault). complaint (fault_path fault) (broken_rule fault)) (λ (read : ScenarioReadValue). warning_lines read.warnings) file found
 
 -- ## Aborted participants
 

@@ -1,11 +1,13 @@
 //! The command `simulate`.
 
 ghost use Rattle.std.specs.Prelude.{◌≡◌, ◌≢◌, ◌<◌, ℕ, true, List, length, position, IfSome};
-ghost use Rattle.sk_script.specs.Faults.{fault_path};
-ghost use Rattle.sk_script.specs.Reading.{reading};
-ghost use Rattle.sk_script.specs.declared.fault.ScenarioFault.TheVariants as faults;
+ghost use Rattle.std.specs.List.{list_all};
+ghost use Rattle.sk_rules.specs.Faults.{fault_path};
+ghost use Rattle.sk_rules.specs.Outcome.{Answers};
+ghost use Rattle.sk_rules.specs.declared.fault.ScenarioFault.TheVariants as faults;
 ghost use Rattle.sk_sim.specs.Simulations.{journals_of, is_aborting};
 ghost use Rattle.sk_text.specs.Lines.{world_text};
+ghost use Rattle.sk_tools.specs.Runnable.{runnable, is_plain};
 ghost use Rattle.sk_tools.specs.Outside.{Says};
 ghost use Rattle.sk_tools.specs.Found.{Valid, found_in, found_by, complaint, said_unread};
 ghost use Rattle.sk_tools.specs.Simulate.{Leaves, LeavesRun, EndsUnread, CountsReads, CountsWrites, IsRunStatus, JudgesRun, broken_rule, run_remarks, has_aborted};
@@ -20,14 +22,15 @@ use crate::outside::writing::{say, say_line};
 use crate::outside::{OUT_OF_MEMORY_LINE, STALLED_LINE, WRITE_FAULT_LINE};
 use crate::simulate::writing::{Unwritten, write_world};
 use sk_base::{Files, Sink};
+use sk_config::Path;
 use sk_msg::{Entry, State};
-use sk_script::{ScenarioFault, ScenarioRead, read_scenario};
+use sk_script::{Part, Rule, ScenarioFault, ScenarioRead, read_scenario};
 use sk_sim::{Finished, SimFault, run_rounds};
 pub use status::SimulateStatus;
 use std::alloc::Global;
 
 /// `simulate FILE`: reads the scenario in the file, runs all its participants in rounds, and writes
-/// their journals.
+/// their journals. Participants with services or scripts can't be run yet: they are refused.
 pub fn simulate<F: Files, O: Sink, E: Sink>(
     alloc: Global,
     file: &str,
@@ -37,7 +40,7 @@ pub fn simulate<F: Files, O: Sink, E: Sink>(
 ) -> SimulateStatus
     ensures reads { CountsReads result (F.faults files.old) (F.faults files.new) }
     ensures writes { CountsWrites result (O.faults out.old) (O.faults out.new) }
-    ensures leaves { F.tells files.old ≡ true → Leaves result file.now (found_in reading (F.content files.old file.now))
+    ensures leaves { F.tells files.old ≡ true → Leaves result file.now (found_in runnable (F.content files.old file.now))
         (record { tells = O.tells out.old; faults = O.faults out.old; faults_now = O.faults out.new; written = O.written out.old; written_now = O.written out.new })
         (record { tells = E.tells err.old; faults = E.faults err.old; faults_now = E.faults err.new; written = E.written err.old; written_now = E.written err.new }) }
 {
@@ -79,14 +82,42 @@ fn simulate_bytes<O: Sink, E: Sink>(
 ) -> SimulateStatus
     ensures reads { result ≢ ReadFault }
     ensures writes { CountsWrites result (O.faults out.old) (O.faults out.new) }
-    ensures leaves { (file : List ℕ) → Leaves result file (found_by (reading bytes.now))
+    ensures leaves { (file : List ℕ) → Leaves result file (found_by (runnable bytes.now))
         (record { tells = O.tells out.old; faults = O.faults out.old; faults_now = O.faults out.new; written = O.written out.old; written_now = O.written out.new })
         (record { tells = E.tells err.old; faults = E.faults err.old; faults_now = E.faults err.new; written = E.written err.old; written_now = E.written err.new }) }
 {
-    match read_scenario(alloc, bytes) {
+    match read_runnable(alloc, bytes) {
         Ok(read) => simulate_read(alloc, &read, out, err),
         Err(fault) => refuse_scenario(alloc, fault, err),
     }
+}
+
+/// Reads a scenario that can be run.
+#[tactic(auto, unfolding(crate::specs::Runnable::runnable))]
+fn read_runnable(alloc: Global, bytes: &[u8]) -> Result<ScenarioRead, ScenarioFault>
+    ensures { Answers (runnable bytes.now) result }
+{
+    let read = read_scenario(alloc, bytes)?;
+    if !are_plain(read.scenario.participants()) {
+        let path = Path::root(alloc).key(alloc, "participants")?;
+        return Err(ScenarioFault::Refused(path, Rule::NotAllowedHere));
+    }
+    Ok(read)
+}
+
+/// Whether all of these participants can be run.
+fn are_plain(parts: &[Part]) -> bool
+    ensures { result ≡ list_all is_plain parts.now }
+{
+    parts.iter().all(|part| is_plain(part))
+}
+
+/// Whether the participant has neither services nor anything to do of its own.
+#[tactic(auto, unfolding(crate::specs::Runnable::is_plain))]
+fn is_plain(part: &Part) -> bool
+    ensures { result ≡ is_plain part.now }
+{
+    part.services().is_empty() && part.ready().is_empty() && part.script().is_empty()
 }
 
 /// Says what is wrong with a scenario.

@@ -1,5 +1,5 @@
 use Rattle.std.proofs.Common.{◌≡◌, ◌∙◌, refl, ap, sym}
-use Rattle.sk_script.specs.Reading.{reading}
+use Rattle.sk_tools.specs.Runnable.{runnable}
 use Rattle.sk_tools.specs.Found.{found_in, found_by}
 use Rattle.sk_tools.proofs.OfflineLaws.{found_content}
 use Rattle.sk_tools.proofs.SimulateLaws.{unread}
@@ -7,8 +7,8 @@ use Rattle.sk_tools.proofs.simulate.simulate.Goals as goal
 
 pub returns-in-Ok-clause-leaves : goal.returns-in-Ok-clause-leaves
 returns-in-Ok-clause-leaves g c = λ told.
-    let found : found_in reading (g.F.Files.content c.args.files.now c.args.file.now) ≡ found_by (reading c.deref.result.now) =
-    found_content reading _ c.in-Ok.bytes.items (c.in-Ok.ensures.told told) ∙ ap (λ bytes. found_by (reading bytes)) (sym c.deref.ensures.value) in
+    let found : found_in runnable (g.F.Files.content c.args.files.now c.args.file.now) ≡ found_by (runnable c.deref.result.now) =
+    found_content runnable _ c.in-Ok.bytes.items (c.in-Ok.ensures.told told) ∙ ap (λ bytes. found_by (runnable bytes)) (sym c.deref.ensures.value) in
     rw found (c.simulate_bytes.ensures.leaves c.args.file.now)
 
 pub returns-in-Err-clause-leaves : goal.returns-in-Err-clause-leaves
