@@ -7,10 +7,9 @@ What the rows of the table are to give is written out by hand, from docs/FORMATS
 compared with what scripts/scenario_rules.py makes of it, which is written from that document alone. With --rules only that
 reader is tried on the table, and no program is run. SCRIPT_TABLES in the environment names another program.
 
-The program reads requests, a line each: `read HEX` with the bytes of a file in hexadecimal, or
-`generate NUMBER PARTICIPANTS STEPS`. It answers `fault PATH: RULE`; or `scenario COUNT`, so many lines with the
-warnings (`warning: ` may stand before each), a line with the canonical text, and `closed` or `open`; or, for `generate`, a
-line with the canonical text.
+The program reads requests, a line each: `read HEX` or `text HEX` with the bytes of a file in hexadecimal, or
+`generate NUMBER PARTICIPANTS STEPS`. It answers `fault PATH: RULE`; or for `read` `scenario COUNT`, so many lines with the
+warnings (`warning: ` may stand before each), and `closed` or `open`; or for the others a line with the canonical text.
 """
 import copy
 import json
@@ -754,6 +753,10 @@ def read_request(file):
     return b"read " + file.hex().encode() + b"\n"
 
 
+def text_request(file):
+    return b"text " + file.hex().encode() + b"\n"
+
+
 def answer(found):
     """As the program writes it, of what the rules give."""
     if found[0] == "fault":
@@ -798,18 +801,27 @@ def requests(rows, changed):
     """Each request with the answer that is wanted."""
     for file, wanted in rows:
         yield read_request(file), answer(wanted)
-        if wanted[0] == "scenario":
-            yield read_request(wanted[1]), answer(("scenario", wanted[1], []))
+        yield text_request(file), wanted[1] if wanted[0] == "scenario" else answer(wanted)
+        yield from read_back(wanted)
     for file, found, is_closed in closed_rows():
         yield read_request(file), answer(found).rsplit(b"\n", 2)[0] + (b"\nclosed\n" if is_closed else b"\nopen\n")
     for file in changed:
         found = rules.read(file)
         yield read_request(file), answer(found)
         if found[0] == "scenario":
-            yield read_request(found[1]), answer(("scenario", found[1], []))
+            yield text_request(file), found[1]
+        yield from read_back(found)
     for numbers in generated():
         text = rules.generate(*numbers)
-        yield read_request(text), answer(("scenario", text, []))
+        yield b"generate %d %d %d\n" % numbers, text
+        yield from read_back(("scenario", text))
+
+
+def read_back(found):
+    """A scenario's own text reads as the same, without a warning, and is written again byte for byte."""
+    if found[0] == "scenario":
+        yield read_request(found[1]), answer(("scenario", found[1], []))
+        yield text_request(found[1]), found[1]
 
 
 def differences(asked):

@@ -28,7 +28,8 @@ STATES = {number: state for state, number in NUMBERS.items()}
 # The states that have an edge to Error, and to Aborting.
 TO_ERROR = CHAIN[:7] + ["Paused"]
 TO_ABORTING = TO_ERROR + ["Error"]
-KINDS = {"Hello": 1, "Leave": 2, "NextStep": 3, "ServicesEnd": 5, "Status": 6, "Abort": 8}
+KINDS = {"Hello": 1, "Leave": 2, "NextStep": 3, "ServiceAdd": 4, "ServicesEnd": 5, "Status": 6, "Abort": 8}
+SERVICES = ["can", "ethernet", "lin", "publisher", "subscriber", "server", "client"]
 MOST_ENTRIES = 500000
 
 
@@ -66,6 +67,23 @@ def status(state, until=0):
     return message("Status", bytes([NUMBERS[state]]) + number(until, 8))
 
 
+def short(text):
+    """A name or a text: its length and its bytes."""
+    return bytes([len(text.encode())]) + text.encode()
+
+
+def service_add(own, service):
+    """What tells of this service of a scenario, which is its owner's of this number. A history isn't told."""
+    kind = service["kind"]
+    topic = service.get("topic", service.get("function", service.get("network", service["name"])))
+    fields = number(own, 4) + bytes([SERVICES.index(kind) + 1]) + short(service["name"]) + short(topic) + short(service.get("media", ""))
+    labels = service.get("labels", [])
+    fields += bytes([len(labels)])
+    for label in labels:
+        fields += short(label["key"]) + short(label["value"]) + bytes([label["kind"] == "mandatory"])
+    return message("ServiceAdd", fields)
+
+
 def read_message(kind, text):
     """The values of the fields. Written again they have to be the same text."""
     need(kind in KINDS, "a kind that none of these scenarios has")
@@ -81,6 +99,8 @@ def read_message(kind, text):
         need(data[0] in STATES, "a number that no state has")
         values = (STATES[data[0]], int.from_bytes(data[1:], "little"))
         again = status(*values)
+    elif kind == "ServiceAdd":
+        values, again = (), f"{kind} {text}"  # The one that takes it compares it with the service in the scenario.
     else:
         values = ()
         again = message(kind)
@@ -119,8 +139,10 @@ def system_state(states):
 class Peer:
     """What is known of a peer, by what was got of it."""
 
-    def __init__(self, name):
+    def __init__(self, name, services):
         self.name, self.role, self.told_all, self.announced, self.state, self.left = name, None, False, None, "Invalid", False
+        # The services that it has still to tell.
+        self.services = deque(services)
 
     def is_synchronised(self):
         return self.role is not None and self.role & 2
@@ -133,9 +155,9 @@ class Journal:
     """One participant's journal, entry by entry: what it says so far, and what has to stand next."""
 
     def __init__(self, scenario, own):
-        self.name, self.coordinated, self.size = scenario["parts"][own]
+        self.name, self.coordinated, self.size, services = scenario["parts"][own]
         self.required = scenario["required"]
-        self.peers = {k: Peer(part[0]) for k, part in enumerate(scenario["parts"]) if k != own}
+        self.peers = {k: Peer(part[0], part[3]) for k, part in enumerate(scenario["parts"]) if k != own}
         self.limit = scenario["duration"]
         self.state = self.system = "Invalid"
         self.begun = self.count = 0
@@ -146,7 +168,7 @@ class Journal:
         # What has to stand next, in this order.
         self.owed = deque()
         for k in self.peers:
-            self.owed += [f"put {k} {hello(self.name, role)}", f"put {k} {message('ServicesEnd')}"]
+            self.owed += [f"put {k} {text}" for text in [hello(self.name, role), *services, message("ServicesEnd")]]
         self.enter("ServicesCreated")
 
     def tell(self, text):
@@ -256,8 +278,11 @@ class Journal:
             peer.role = values[1]
             return
         need(peer.role is not None, "before Hello")
-        need(peer.told_all == (kind != "ServicesEnd"), "before ServicesEnd, or a second one")
-        if kind == "ServicesEnd":
+        need(peer.told_all == (kind not in ("ServiceAdd", "ServicesEnd")), "before ServicesEnd, or behind it")
+        if kind == "ServiceAdd":
+            need(peer.services and peer.services.popleft() == f"{kind} {text}", "not the next service of this peer")
+        elif kind == "ServicesEnd":
+            need(not peer.services, "not all services were told")
             peer.told_all = True
         elif kind == "NextStep":
             need(peer.is_synchronised() and (peer.announced is None or peer.announced < values[0]), "an announcement out of order")
@@ -340,6 +365,30 @@ def text_of(text, own):
 NAMES = ["A", "AA", "B", "Z", "a", "b c", "ä", "Ä", "~", "z/", "\u4e00", "\U0001f600", '"', "\\", "n" * 64, "N01", "N1", "é"]
 
 
+def random_services(rng, most):
+    """Services as a file gives them."""
+    services = []
+    for name in rng.sample(NAMES, rng.randint(0, most)):
+        kind = rng.choice(SERVICES)
+        service = {"kind": kind, "name": name}
+        if kind in SERVICES[:3]:
+            if rng.random() < 0.5:
+                service["network"] = rng.choice(NAMES)
+        else:
+            service["topic" if kind in SERVICES[3:5] else "function"] = rng.choice(NAMES)
+            if rng.random() < 0.3:
+                service["media"] = rng.choice(["", "text/plain", "ä"])
+            if rng.random() < 0.5:
+                service["labels"] = [
+                    {"key": key, "value": rng.choice(["", "1", "ß"]), "kind": rng.choice(["optional", "mandatory"])}
+                    for key in rng.sample(NAMES, rng.randint(0, 3))
+                ]
+            if kind == "publisher" and rng.random() < 0.5:
+                service["history"] = rng.randint(0, 1)
+        services.append(dict(rng.sample(list(service.items()), len(service))))
+    return services
+
+
 def random_scenario(rng, most=6):
     """A scenario as JSON, and what it says: participants in the byte order of their names."""
     names = rng.sample(NAMES, rng.randint(1, most))
@@ -353,12 +402,15 @@ def random_scenario(rng, most=6):
             entry["mode"] = "coordinated" if coordinated else "autonomous"
         if size is not None:
             entry["step"] = size
-        parts.append((name.encode(), coordinated, size))
+        services = random_services(rng, rng.choice([0, 3, 6]))
+        if services or rng.random() < 0.1:
+            entry["services"] = services
+        parts.append((name.encode(), coordinated, size, [service_add(own, service) for own, service in enumerate(services)]))
         entries.append(dict(rng.sample(list(entry.items()), len(entry))))
     least = min([part[2] for part in parts if part[2]] or [1000])
     duration = max(0, min(least * rng.randint(0, 20) + rng.choice([0, 0, -1, 1]), 2**61))
     parts.sort()
-    required = [name.decode() for name, coordinated, _ in parts if coordinated]
+    required = [part[0].decode() for part in parts if part[1]]
     value = {"duration": duration, "participants": entries}
     if required and rng.random() < 0.5:
         required = rng.sample(required, rng.randint(1, len(required)))
@@ -432,22 +484,32 @@ def faulty():
     yield '{"duration":1,"participants":[{"name":"A"}],"participants":[]}', "/participants", "out of range"
 
 
+def not_run_yet():
+    """What a participant would do of its own isn't run yet."""
+    for more in ({"vars": {"x": 1}, "ready": [{"set": "x", "to": 2}]}, {"script": [{"at": 1, "do": [{"stop": True}]}]}):
+        yield {"duration": 0, "participants": [{"name": "A", **more}]}, "/participants", "not allowed here"
+
+
 def at_the_edge(few):
     """Scenarios at a limit, as JSON and as what they say: 32 participants, the longest run, the most entries."""
     crowd = [(f"n{i:02}", True, 1000) for i in range(32)]
     yield 1000, crowd
     yield 2**61, [("A", True, 2**60), ("B", False, None)]
+    kinds = [{"kind": "can", "name": f"c{i}"} for i in range(32)] + [{"kind": "server", "name": f"s{i}", "function": "f"} for i in range(32)]
+    yield 3000, [("A", True, 1000, kinds), ("B", True, 1000, kinds[:1])]
     if not few:
         yield 300000, [("A", True, 1)]
         yield 150000, [("A", True, 1), ("B", True, 1)]
 
 
 def written(duration, parts):
-    entries = [{"name": name, "mode": "coordinated" if coordinated else "autonomous"} for name, coordinated, _ in parts]
+    entries = [{"name": part[0], "mode": "coordinated" if part[1] else "autonomous"} for part in parts]
     for entry, part in zip(entries, parts):
         entry.update({"step": part[2]} if part[2] else {})
-    coded = [(name.encode(), coordinated, size) for name, coordinated, size in parts]
-    required = [name for name, coordinated, _ in coded if coordinated]
+        entry.update({"services": part[3]} if part[3:] else {})
+    told = [[service_add(*one) for one in enumerate(part[3] if part[3:] else [])] for part in parts]
+    coded = [(part[0].encode(), part[1], part[2], services) for part, services in zip(parts, told)]
+    required = [part[0] for part in coded if part[1]]
     return json.dumps({"duration": duration, "participants": entries}), {"duration": duration, "parts": coded, "required": required}
 
 
@@ -468,7 +530,7 @@ def put_file(path, content):
 def refused(room):
     """How many faulty files there are, and the first whose end isn't as wanted, or None."""
     path, count = os.path.join(room, "faulty.json"), 0
-    for content, where, rule in faulty():
+    for content, where, rule in (*faulty(), *not_run_yet()):
         put_file(path, content)
         wanted = ("", f"silkit: {where}: {rule}\n", 1)
         got = run(path)
@@ -510,7 +572,8 @@ def plants(text):
 
 def selftest(room):
     """Whether each wrong text is refused, of a run of two in which each step waits for the other's."""
-    text, scenario = written(4000, [("A", True, 1000), ("B", True, 1000)])
+    kinds = [{"kind": "lin", "name": "l"}, {"kind": "publisher", "name": "p", "topic": "t", "history": 1}]
+    text, scenario = written(4000, [("A", True, 1000, kinds), ("B", True, 1000)])
     path = os.path.join(room, "two.json")
     put_file(path, text)
     output, said, ended = run(path)

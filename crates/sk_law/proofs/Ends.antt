@@ -26,7 +26,7 @@ use Rattle.sk_law.proofs.Going.{Goes, Grows, at_most, limited, unlimited, same, 
 
 -- ## Limits
 
-judges_limits : (S : Setup) (past : Past) → Goes past (judge_limits S past)
+pub judges_limits : (S : Setup) (past : Past) → Goes past (judge_limits S past)
 unfolding judge_limits
 judges_limits S past =
     if_goes (not (has_edge (state_of past.journal) Error)) (stays past)
@@ -250,7 +250,7 @@ lesser_pause memory count e many few = on memory.pause e
     on None f = absurd cc
     on (Some n) f = let same : n ≡ count = cc in omega arith
 
-counts_go : (S : Setup) (count : ℕ) (past : Past) → past.memory.pause ≡ Some count → Goes past (count_down S count past)
+pub counts_go : (S : Setup) (count : ℕ) (past : Past) → past.memory.pause ≡ Some count → Goes past (count_down S count past)
 unfolding count_down
 counts_go S count past e = if_goes (nat_le count 1) (goes (asks_grow S Continue past)) (same past (with_pause (Some (count - 1)) past) refl (less_pause past.memory count e))
 

@@ -4,6 +4,7 @@ mod Filled
 mod Going
 mod Ends
 mod Putting
+mod Resting
 pub mod Counting
 pub mod Gots
 pub mod Others

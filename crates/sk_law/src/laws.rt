@@ -26,7 +26,8 @@ pub fn limits_hold()
     ensures { LimitsHold }
 {}
 
-/// Without own services at most 501,000 messages are ever put to one number.
+/// So many messages are put to one number at once, at most, and none once nothing is handed any more,
+/// unless the state goes on.
 pub fn what_is_put_is_bounded()
     ensures { PutsBounded }
 {}

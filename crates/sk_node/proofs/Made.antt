@@ -18,7 +18,6 @@ use Rattle.sk_pubsub.specs.Announcing.{are_numbered}
 use Rattle.sk_law.specs.declared.memory.Memory.{Memory}
 use Rattle.sk_law.specs.declared.setup.Setup.{Setup}
 use Rattle.sk_law.specs.Past.{Past, add, put_each}
-use Rattle.sk_law.specs.Bounded.{IsBounded, PutsBounded}
 use Rattle.sk_law.specs.Readings.{system_told, payload, payload_in, is_gone, put}
 use Rattle.sk_law.specs.Links.{own_name, peers, reached, told, system}
 use Rattle.sk_law.specs.Lawful.{Lawful, starts}
@@ -217,19 +216,14 @@ made_small S services few = (
 
 -- ## The participant
 
-pub made_sound : PutsBounded → (S : Setup) (k : Kept) → length S.services ≤ 64 → length S.names ≤ 32 → k.setup ≡ S → k.past ≡ making S →
+pub made_sound : (S : Setup) (k : Kept) → length S.services ≤ 64 → length S.names ≤ 32 → k.past ≡ making S →
     length k.out ≡ length k.setup.names + length k.past.memory.tools → ((q : ℕ) → slice_index_or k.out q 0 ≤ length (put k.past.journal q)) → IsSound (record { kept = k; poisoned = false })
-made_sound law S k services names s p all within = record {
+made_sound S k services names p all within = record {
   all = all;
   within = within;
-  few = λ e q. law.holds k.past q (bounded e);
-  bounded = λ e f. bounded e;
   short = λ f edge. subst (λ (x : Past). length x.journal < 500000) (sym p) (made_small S services names).0;
   light = λ f edge. subst (λ (x : Past). payload x.journal < 33554432) (sym p) (made_small S services names).1;
 }
-  where
-    bounded : k.setup.services ≡ [] → IsBounded k.past
-    bounded e = subst (λ (x : Past). IsBounded x) (sym p) (law.starts S (sym (ap (λ (x : Setup). x.services) s) ∙ e))
 
 pub made_lawful : (S : Setup) (past : Past) → past ≡ making S → Lawful S past []
 made_lawful S past p = subst (λ (x : Past). Lawful S x []) (sym p) starts

@@ -1,20 +1,17 @@
 -- A call of a participant, by what happened to what it keeps.
-use Rattle.std.specs.Prelude.{◌≡◌, ◌<◌, ◌≤◌, refl, ℕ, ◌+◌, ◌-◌, Bool, true, false, IsTrue, List, [], ◌++◌, length, map, slice_index_or, Option, Some, None, OnSome, IfNone}
+use Rattle.std.specs.Prelude.{◌≡◌, ◌<◌, ◌≤◌, refl, ℕ, ◌+◌, ◌-◌, Bool, true, false, IsTrue, List, [], ◌++◌, length, slice_index_or, Option, Some, None, OnSome, IfNone}
 use Rattle.std.proofs.Common.{ap, sym, ◌∙◌, subst, append-nil, arith}
 use mathlib.Core.List.{IsPrefix}
 use Rattle.sk_msg.specs.declared.command.Command.TheVariants.{Abort}
-use Rattle.sk_msg.specs.declared.content.Content.{Content}
 use Rattle.sk_msg.specs.declared.entry.Entry.{Entry}
 use Rattle.sk_msg.specs.declared.state.State.TheVariants.{Error}
 use Rattle.sk_msg.specs.Edges.{has_edge}
-use Rattle.sk_law.specs.declared.made.Call.TheVariants as calls
 use Rattle.sk_law.specs.declared.made.Made.{Made}
 use Rattle.sk_law.specs.declared.setup.Setup.{Setup}
 use Rattle.sk_law.specs.Past.{Past}
-use Rattle.sk_law.specs.Readings.{state_of, payload, got, put}
+use Rattle.sk_law.specs.Readings.{state_of, payload, put}
 use Rattle.sk_law.specs.Links.{is_open}
-use Rattle.sk_law.specs.Blocks.{get, with_completed, judge_limits}
-use Rattle.sk_law.specs.Bounded.{IsBounded, PutsBounded}
+use Rattle.sk_law.specs.Blocks.{with_completed, judge_limits}
 use Rattle.sk_law.specs.Ends.{left, TurnsEnd, LimitsHold}
 use Rattle.sk_law.specs.Growing.{Adds, BlocksAdd}
 use Rattle.sk_law.specs.Lawful.{Happens, Lawful, goes_on, note_asked, gets, loses, completes, asks, adds, moves, readies, begins, counts, gives_up}
@@ -93,34 +90,21 @@ went_whole {old} {new} {all} {was} {now} happens h = record { made = []; calls =
 
 -- ## What holds at every moment
 
--- what was put stays bounded
-bounded_went : PutsBounded → (old new : Kept) {was now : Lists} → Went old new was now → old.setup.services ≡ [] → IsBounded old.past → IsBounded new.past
-bounded_went puts old new h none bounded = subst (λ (p : Past). IsBounded p) (past_of h) (puts.goes old.setup old.past h.past h.made none bounded h.happens)
-
-same_services : {old new : Kept} {was now : Lists} → Went old new was now → new.setup.services ≡ [] → old.setup.services ≡ []
-same_services h e = sym (ap (λ (k : Kept). k.setup.services) h.whole) ∙ e
-
-pub sound_went : LimitsHold → PutsBounded → (old new : Kept) {was now : Lists} → Went old new was now → (old.setup.services ≡ [] → IsBounded old.past) → length new.out ≡ length new.setup.names + length new.past.memory.tools →
+pub sound_went : LimitsHold → (old new : Kept) {was now : Lists} → Went old new was now → length new.out ≡ length new.setup.names + length new.past.memory.tools →
     ((p : ℕ) → slice_index_or new.out p 0 ≤ length (put new.past.journal p)) → IsSound (record { kept = new; poisoned = false })
-sound_went law puts old new {was} {now} h bounded all within = record {
+sound_went law old new {was} {now} h all within = record {
   all = all;
   within = within;
-  few = λ none p. puts.holds new.past p (bounded_went puts old new h (same_services h none) (bounded (same_services h none)));
-  bounded = λ none e. bounded_went puts old new h (same_services h none) (bounded (same_services h none));
   short = λ e. subst (λ (p : Past). has_edge (state_of p.journal) Error ≡ true → length p.journal < 500000) (past_of h) (law.entries old.setup h.past);
   light = λ e. subst (λ (p : Past). has_edge (state_of p.journal) Error ≡ true → payload p.journal < 33554432) (past_of h) (law.bytes old.setup h.past);
 }
 
 -- of one to which memory was refused a front stands
-pub sound_stopped : PutsBounded → (old k : Kept) {was now : Lists} → WentCut old k was now → (old.setup.services ≡ [] → IsBounded old.past) → length k.out ≡ length k.setup.names + length k.past.memory.tools → ((p : ℕ) → slice_index_or k.out p 0 ≤ length (put k.past.journal p)) →
+pub sound_stopped : (k : Kept) → length k.out ≡ length k.setup.names + length k.past.memory.tools → ((p : ℕ) → slice_index_or k.out p 0 ≤ length (put k.past.journal p)) →
     IsSound (record { kept = k; poisoned = true })
-sound_stopped puts old k h bounded all within = record {
+sound_stopped k all within = record {
   all = all;
   within = within;
-  few = λ none p.
-      let bare : old.setup.services ≡ [] = sym (ap (λ (S : Setup). S.services) h.cut.setup) ∙ none in
-      puts.cuts (judge_limits old.setup h.past) k.past.journal p (puts.goes old.setup old.past h.past (h.made ++ h.others) bare (bounded bare) h.happens) h.cut.front;
-  bounded = λ none e. absurd cc;
   short = λ e. absurd cc;
   light = λ e. absurd cc;
 }
@@ -130,9 +114,9 @@ sound_stopped puts old k h bounded all within = record {
 abbrev pub known : Kept → Bool → Known
 known k b = record { kept = k; poisoned = b }
 
-pub sound_in : LimitsHold → PutsBounded → (k new : Kept) (b : Bool) {was now : Lists} → b ≡ false → (k.setup.services ≡ [] → IsBounded k.past) → Went k new was now → length new.out ≡ length new.setup.names + length new.past.memory.tools →
+pub sound_in : LimitsHold → (k new : Kept) (b : Bool) {was now : Lists} → b ≡ false → Went k new was now → length new.out ≡ length new.setup.names + length new.past.memory.tools →
     ((p : ℕ) → slice_index_or new.out p 0 ≤ length (put new.past.journal p)) → IsSound (record { kept = new; poisoned = b })
-sound_in law puts k new b f bounded h all within = subst (λ x. IsSound (record { kept = new; poisoned = x })) (sym f) (sound_went law puts k new h bounded all within)
+sound_in law k new b f h all within = subst (λ x. IsSound (record { kept = new; poisoned = x })) (sym f) (sound_went law k new h all within)
 
 pub serves_in : BlocksAdd → TurnsEnd → (old : Known) (k new : Kept) (b : Bool) {was now : Lists} → known k b ≡ old → b ≡ false → Went k new was now →
     Serves old (record { kept = new; poisoned = b }) was now
@@ -160,27 +144,18 @@ open_in old k b p e h = subst (λ (o : Known). IsTrue (is_open o.kept.setup o.ke
 -- ## Taking out
 
 -- only what was taken out changes
-pub same_setup : {X : Type 0} (r : Option X) (k new : Kept) (out : List ℕ) → OnSome r (new ≡ record k { out = out }) → IfNone r (new ≡ k) → new.setup ≡ k.setup
-same_setup (Some x) k new out e f = ap (λ (n : Kept). n.setup) e
-same_setup None k new out e f = ap (λ (n : Kept). n.setup) f
-
 pub same_past : {X : Type 0} (r : Option X) (k new : Kept) (out : List ℕ) → OnSome r (new ≡ record k { out = out }) → IfNone r (new ≡ k) → new.past ≡ k.past
 same_past (Some x) k new out e f = ap (λ (n : Kept). n.past) e
 same_past None k new out e f = ap (λ (n : Kept). n.past) f
 
-pub sound_out : (k new : Kept) (b : Bool) → new.setup ≡ k.setup → new.past ≡ k.past → IsSound (known k b) → length new.out ≡ length new.setup.names + length new.past.memory.tools →
+pub sound_out : (k new : Kept) (b : Bool) → new.past ≡ k.past → IsSound (known k b) → length new.out ≡ length new.setup.names + length new.past.memory.tools →
     ((p : ℕ) → slice_index_or new.out p 0 ≤ length (put new.past.journal p)) → IsSound (known new b)
-sound_out k new b s e sound all within = record {
+sound_out k new b e sound all within = record {
   all = all;
   within = within;
-  few = λ none p. subst (λ (x : Past). length (put x.journal p) ≤ 501000) (sym e) (sound.few (bare none) p);
-  bounded = λ none f. subst (λ (x : Past). IsBounded x) (sym e) (sound.bounded (bare none) f);
   short = λ f. subst (λ (x : Past). has_edge (state_of x.journal) Error ≡ true → length x.journal < 500000) (sym e) (sound.short f);
   light = λ f. subst (λ (x : Past). has_edge (state_of x.journal) Error ≡ true → payload x.journal < 33554432) (sym e) (sound.light f);
 }
-  where
-    bare : new.setup.services ≡ [] → k.setup.services ≡ []
-    bare none = sym (ap (λ (x : Setup). x.services) s) ∙ none
 
 -- ## A turn
 
@@ -193,12 +168,12 @@ turned_in law ends turned old k new b was now e f h = subst (λ o. IsTurned turn
     by Quiet i = (i, ap (λ x. known x b) i.same)
     by Finished i = (i, ap (λ x. known x b) i.same)
 
-pub sound_turned : LimitsHold → PutsBounded → (turned : Turned) (k new : Kept) (b : Bool) (was now : Lists) → b ≡ false → IsSound (known k b) → Turns turned k new was now →
+pub sound_turned : LimitsHold → (turned : Turned) (k new : Kept) (b : Bool) (was now : Lists) → b ≡ false → IsSound (known k b) → Turns turned k new was now →
     length new.out ≡ length new.setup.names + length new.past.memory.tools → ((p : ℕ) → slice_index_or new.out p 0 ≤ length (put new.past.journal p)) → IsSound (known new b)
-sound_turned law puts (Entries n) k new b was now f sound h all within = sound_in law puts k new b f (λ none. sound.bounded none f) h.row.went all within
-sound_turned law puts Counted k new b was now f sound h all within = sound_in law puts k new b f (λ none. sound.bounded none f) h.row.went all within
-sound_turned law puts Quiet k new b was now f sound h all within = subst (λ x. IsSound (known x b)) (sym h.same) sound
-sound_turned law puts Finished k new b was now f sound h all within = subst (λ x. IsSound (known x b)) (sym h.same) sound
+sound_turned law (Entries n) k new b was now f sound h all within = sound_in law k new b f h.row.went all within
+sound_turned law Counted k new b was now f sound h all within = sound_in law k new b f h.row.went all within
+sound_turned law Quiet k new b was now f sound h all within = subst (λ x. IsSound (known x b)) (sym h.same) sound
+sound_turned law Finished k new b was now f sound h all within = subst (λ x. IsSound (known x b)) (sym h.same) sound
 
 -- at its end, number by number
 pub ended_in : (turned : Turned) (old : Known) (k new : Kept) (b : Bool) (was now : Lists) → known k b ≡ old → IsSound (known k b) → Turns turned k new was now → turned ≡ Finished → IsEnded old.kept

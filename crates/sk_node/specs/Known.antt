@@ -1,11 +1,10 @@
 -- What a participant stands for, and what happens to it in a call.
-use Rattle.std.specs.Prelude.{◌≡◌, ◌<◌, ◌≤◌, ℕ, ◌+◌, Bool, true, false, List, [], ◌++◌, length, slice_index_or}
+use Rattle.std.specs.Prelude.{◌≡◌, ◌<◌, ◌≤◌, ℕ, ◌+◌, Bool, true, false, List, ◌++◌, length, slice_index_or}
 use mathlib.Core.List.{IsPrefix}
 use Rattle.sk_msg.specs.declared.state.State.TheVariants.{Error}
 use Rattle.sk_msg.specs.Edges.{has_edge}
 use Rattle.sk_law.specs.declared.made.Made.{Made}
 use Rattle.sk_law.specs.Readings.{state_of, payload, put}
-use Rattle.sk_law.specs.Bounded.{IsBounded}
 use Rattle.sk_law.specs.Ends.{left}
 use Rattle.sk_law.specs.Lawful.{Lawful}
 use Rattle.sk_law.specs.Blocks.{judge_limits}
@@ -44,13 +43,11 @@ pub record Stops (old new : Known) (was now : Lists) : Type 0 where
 
 -- ## What holds at every moment
 
--- each number has a count of what was taken out for it, which is at most what was put to it; of a participant without
--- services that is bounded. Until memory was refused the journal is below the limits while its state has an edge to Error
+-- each number has a count of what was taken out for it, which is at most what was put to it. Until memory was refused the
+-- journal is below the limits while its state has an edge to Error
 pub record IsSound (known : Known) : Type 0 where
   pub all : length known.kept.out ≡ length known.kept.setup.names + length known.kept.past.memory.tools
   pub within : (p : ℕ) → slice_index_or known.kept.out p 0 ≤ length (put known.kept.past.journal p)
-  pub few : known.kept.setup.services ≡ [] → (p : ℕ) → length (put known.kept.past.journal p) ≤ 501000
-  pub bounded : known.kept.setup.services ≡ [] → known.poisoned ≡ false → IsBounded known.kept.past
   pub short : known.poisoned ≡ false → has_edge (state_of known.kept.past.journal) Error ≡ true →
       length known.kept.past.journal < 500000
   pub light : known.poisoned ≡ false → has_edge (state_of known.kept.past.journal) Error ≡ true →

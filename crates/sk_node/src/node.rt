@@ -20,9 +20,7 @@ use crate::app::App;
 use crate::rows::Turned;
 use crate::{events, making};
 use sk_base::WantOfMemory;
-use sk_law::{
-    Journal, Setup, blocks_only_add, limits_hold, turns_come_to_an_end, what_is_put_is_bounded,
-};
+use sk_law::{Journal, Setup, blocks_only_add, limits_hold, turns_come_to_an_end};
 use sk_msg::{Command, Entry, Message, Verdict};
 use std::alloc::Global;
 use std::marker::Model;
@@ -80,7 +78,6 @@ impl Node {
     {
         let journal = making::make(alloc, setup)?;
         journal.sound();
-        what_is_put_is_bounded();
         Ok(Node {
             journal,
             poisoned: false,
@@ -111,7 +108,6 @@ impl Node {
         blocks_only_add();
         limits_hold();
         turns_come_to_an_end();
-        what_is_put_is_bounded();
         match events::take(&mut self.journal, app, peer, message) {
             Ok(()) => {
                 self.journal.sound();
@@ -144,7 +140,6 @@ impl Node {
         blocks_only_add();
         limits_hold();
         turns_come_to_an_end();
-        what_is_put_is_bounded();
         match events::lose(&mut self.journal, app, peer, reason) {
             Ok(()) => {
                 self.journal.sound();
@@ -176,7 +171,6 @@ impl Node {
         blocks_only_add();
         limits_hold();
         turns_come_to_an_end();
-        what_is_put_is_bounded();
         match events::ask(&mut self.journal, app, command) {
             Ok(verdict) => {
                 self.journal.sound();
@@ -206,7 +200,6 @@ impl Node {
         blocks_only_add();
         limits_hold();
         turns_come_to_an_end();
-        what_is_put_is_bounded();
         match events::turn(&mut self.journal, app) {
             Ok(turned) => {
                 self.journal.sound();

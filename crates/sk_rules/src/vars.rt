@@ -1,6 +1,6 @@
 //! The variables of a participant.
 
-ghost use Rattle.std.specs.Prelude.{◌≡◌, [], IfOk, IsTrue, position, List};
+ghost use Rattle.std.specs.Prelude.{◌≡◌, [], ◌∷◌, IfOk, IsTrue, position, List};
 ghost use Rattle.std.specs.Str.{bytes_eq};
 ghost use Rattle.serde_json.specs.View.{view, members_view};
 ghost use Rattle.sk_rules.specs.Outcome.{Answers, AnswersAs};
@@ -10,7 +10,7 @@ ghost use Rattle.sk_rules.specs.Vars.{are_vars, vars_read, vars_in, var_read};
 use crate::fault::{Rule, ScenarioFault};
 use crate::field;
 use serde_json::{Map, Value};
-use sk_base::Name;
+use sk_base::{Name, WantOfMemory};
 use sk_config::Path;
 use std::alloc::Global;
 use std::marker::Model;
@@ -55,6 +55,17 @@ impl Vars {
         Vars {
             vars: Vec::new(alloc),
         }
+    }
+
+    /// One variable.
+    #[tactic(auto, unfolding(crate::specs::Vars::are_vars, crate::specs::Vars::is_var))]
+    pub fn one(alloc: Global, var: Var) -> Result<Vars, WantOfMemory>
+        ensures { IfOk result (λ vars. vars ≡ var ∷ []) }
+    {
+        let _ = var.name.as_str();
+        let mut vars = Vec::new(alloc);
+        vars.push(var)?;
+        Ok(Vars { vars })
     }
 
     /// The variables in order.

@@ -11,3 +11,4 @@ pub mod PartLaws
 pub mod WholeLaws
 pub mod ConfigFaultLaws
 pub mod FaultLaws
+pub mod GeneratedLaws

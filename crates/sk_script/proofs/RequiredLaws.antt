@@ -79,7 +79,7 @@ one_or_none : (n : ℕ) → (nat_le 1 n || n == 0) ≡ true
 one_or_none zero = refl
 one_or_none (suc n) = or_left _ _ (le-leb 1 (suc n) (omega arith))
 
-own_required : (parts : List PartValue) → are_sorted (names_of parts) ≡ true → length parts ≤ 32 → are_required parts (coordinated_names parts) ≡ true
+pub own_required : (parts : List PartValue) → are_sorted (names_of parts) ≡ true → length parts ≤ 32 → are_required parts (coordinated_names parts) ≡ true
 unfolding are_required
 own_required parts sorted few =
     let fewer = some_few parts in

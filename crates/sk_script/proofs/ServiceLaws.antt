@@ -78,7 +78,7 @@ network_is name path d network named e =
     then_ok (text_read is_name path network_key d) _ network e
     (λ given read same. subst (λ (n : List ℕ). is_name n ≡ true) (ok_is _ _ same) (name_or path network_key d given name named read))
 
-no_text : is_text [] ≡ true
+pub no_text : is_text [] ≡ true
 unfolding is_text
 no_text = rw (is_utf8-from_IsUtf8 [] (IsUtf8-from_ascii [] (λ i. omega arith))) refl
 

@@ -6,3 +6,4 @@ pub mod Placing
 pub mod Parts
 pub mod Reading
 pub mod Closed
+pub mod Generated

@@ -7,6 +7,8 @@ ghost use Rattle.sk_msg.specs.Rules.{is_new_name};
 ghost use Rattle.sk_config.specs.Json.{json_of};
 ghost use Rattle.sk_rules.specs.Orders.{are_sorted};
 ghost use Rattle.sk_rules.specs.declared.fault.ScenarioFault.TheVariants.{NotJson, WantOfMemory};
+ghost use Rattle.sk_script.specs.Closed.{is_closed};
+ghost use Rattle.sk_script.specs.Generated.{generated, next_seed};
 ghost use Rattle.sk_script.specs.Placing.{in_order};
 ghost use Rattle.sk_script.specs.Reading.{reading};
 ghost use Rattle.sk_script.specs.Scenarios.{PartReadValue};
@@ -25,4 +27,15 @@ pub fn sorted_names_differ()
 pub fn not_json_exactly()
     ensures no_json { (bytes : List ℕ) → (reading bytes ≡ Err NotJson) ↔ (json_of bytes ≡ None) }
     ensures no_memory { (bytes : List ℕ) → reading bytes ≢ Err WantOfMemory }
+{}
+
+/// The scenario that is made of a number is closed.
+pub fn generated_are_closed()
+    ensures { (number count steps : ℕ) → IsTrue (is_closed (generated number count steps)) }
+{}
+
+/// What is drawn from of number 7, first and then.
+pub fn draws_of_seven()
+    ensures first { next_seed 7 ≡ 1282168116 }
+    ensures second { next_seed 1282168116 ≡ 642666333 }
 {}

@@ -21,7 +21,8 @@
 #![tactic(auto)]
 
 mod closed;
-mod keys;
+mod generator;
+pub mod keys;
 pub mod laws;
 mod ordering;
 mod part;
@@ -32,6 +33,7 @@ mod together;
 mod word;
 
 pub use closed::is_closed;
+pub use generator::generate;
 pub use read::read_scenario;
 pub use scenario::{Part, Scenario, ScenarioRead};
 pub use sk_rules::{Rule, ScenarioFault};

@@ -14,7 +14,7 @@ use crate::keys::{
 };
 use serde_json::Value;
 use sk_base::limits::MOST_LABELS;
-use sk_base::{Name, Text};
+use sk_base::{Name, Text, WantOfMemory};
 use sk_config::Path;
 use sk_msg::rules::is_new_key;
 use sk_msg::{Label, LabelKind, Service, ServiceKind, Spec};
@@ -236,17 +236,17 @@ fn read_media(alloc: Global, at: &Path, object: &Value) -> Result<Text, Scenario
 {
     match field::text_at(alloc, at, MEDIA, object)? {
         Some(media) => Ok(media),
-        None => no_text(alloc),
+        None => Ok(no_text(alloc)?),
     }
 }
 
 /// The empty text.
-fn no_text(alloc: Global) -> Result<Text, ScenarioFault>
-    ensures { Answers (Ok []) result }
+pub(crate) fn no_text(alloc: Global) -> Result<Text, WantOfMemory>
+    ensures { IfOk result (λ text. text ≡ []) }
 {
-    match Text::new(alloc, "") {
-        Ok(text) => Ok(text),
-        Err(_) => Err(ScenarioFault::WantOfMemory),
+    match Text::from_utf8(alloc, "".as_bytes())? {
+        Some(text) => Ok(text),
+        None => unreachable!(),
     }
 }
 

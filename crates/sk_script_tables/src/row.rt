@@ -3,7 +3,8 @@
 use crate::fault::Fault;
 use sk_base::WantOfMemory;
 use sk_config::Warning;
-use sk_script::{ScenarioFault, ScenarioRead, is_closed, read_scenario};
+use sk_script::{ScenarioFault, ScenarioRead, generate, is_closed, read_scenario};
+use sk_script_text::scenario_text;
 use std::alloc::Global;
 
 /// The answer to a row, with its line ends.
@@ -11,6 +12,8 @@ pub fn answer(alloc: Global, row: &str) -> Result<String, Fault> {
     let (word, rest) = row.split_once(' ').ok_or(Fault::BadRow)?;
     match word {
         "read" => read(alloc, rest),
+        "text" => text(alloc, rest),
+        "generate" => generated(alloc, rest),
         _ => Err(Fault::BadRow),
     }
 }
@@ -24,6 +27,31 @@ fn read(alloc: Global, digits: &str) -> Result<String, Fault> {
         Ok(read) => Ok(read_text(alloc, &read)?),
         Err(fault) => refusal(alloc, &fault),
     }
+}
+
+/// The text of what the bytes of these digits read as, or why they read as nothing.
+fn text(alloc: Global, digits: &str) -> Result<String, Fault> {
+    let Ok(bytes) = hex::decode(alloc, digits) else {
+        return Err(Fault::BadRow);
+    };
+    match read_scenario(alloc, &bytes) {
+        Ok(read) => Ok(scenario_text(alloc, &read.scenario)?),
+        Err(fault) => refusal(alloc, &fault),
+    }
+}
+
+/// The text of the scenario that a number, a count of participants and a count of steps make.
+fn generated(alloc: Global, words: &str) -> Result<String, Fault> {
+    let (number, rest) = words.split_once(' ').ok_or(Fault::BadRow)?;
+    let (participants, steps) = rest.split_once(' ').ok_or(Fault::BadRow)?;
+    let number = number.parse::<u64>().ok().ok_or(Fault::BadRow)?;
+    let participants = participants.parse::<u32>().ok().ok_or(Fault::BadRow)?;
+    let steps = steps.parse::<u32>().ok().ok_or(Fault::BadRow)?;
+    if participants < 2 || participants > 32 || steps < 1 || steps > 2000 {
+        return Err(Fault::BadRow);
+    }
+    let scenario = generate(alloc, number, participants, steps)?;
+    Ok(scenario_text(alloc, &scenario)?)
 }
 
 /// What was read of a file.

@@ -24,9 +24,11 @@ use Rattle.sk_mesh.specs.Ends.{pushed, popped, waiting, room, OnlyPops}
 use Rattle.sk_sim.specs.declared.wired.Wired.{Wired}
 use Rattle.sk_sim.specs.Wiring.{IsTied, waits, held_at, out_of}
 use Rattle.sk_sim.specs.Cards.{Card, card_of, got_total, total, count_at}
-use Rattle.sk_sim.specs.Parts.{Goes, IsUntouched, Takes, TakesAll, TakesNext, TakesFrom, IsSameFrom}
+use Rattle.sk_sim.specs.Parts.{Goes, IsUntouched, PutsFew, Takes, TakesAll, TakesNext, TakesFrom, IsSameFrom}
 use Rattle.sk_sim.proofs.Counting.{total_less, total_more, counts_same}
 use Rattle.sk_law.specs.Blocks.{get, judge_limits}
+use Rattle.sk_law.specs.Bounded.{PutsBounded}
+use Rattle.sk_sim.proofs.Calls.{puts_none, puts_more, puts_both, puts_one}
 use Rattle.sk_sim.proofs.Untouched.{taken_untouched}
 use Rattle.sk_sim.proofs.Going.{goes_none, goes_both}
 
@@ -99,13 +101,10 @@ tied_on a node ends t same good at sent got_is silent refused unlost = record {
   taken = good.within;
   refused = refused;
   unlost = λ p other. unlost p (ap (λ (S : Setup). is_peer S p) (sym same.setup) ∙ other);
-  bare = none;
-  few = good.few none;
+  services = subst (λ (S : Setup). length S.services ≤ 64) (sym same.setup) t.services;
+  short = good.short same.sound;
   roomy = subst (λ (w : Place). (q : ℕ) → IsPeer w q → 0 < room w q) (sym at) t.roomy;
 }
-  where
-    none : node.kept.setup.services ≡ []
-    none = ap (λ (S : Setup). S.services) same.setup ∙ t.bare
 
 -- what such a call goes on with
 pub goes_on : (a : Wired) (node : Known) (ends : Account) (was now : Lists) → (w : Went a.node.kept node.kept was now) → Keeps a.node node w.made →
@@ -137,10 +136,10 @@ peer_of a p t h =
     ap (λ b. b && not (p == a.node.kept.setup.number)) (lt-ltb p (length a.node.kept.setup.names) low) ∙ ap not (ne_eqb p a.node.kept.setup.number other)
 
 -- a message was popped and taken
-pub takes_read : (a : Wired) (node : Known) (ends : Account) (was now : Lists) (p : ℕ) (m : Content) → IsTied a → IsPeer (place a.ends) p →
+pub takes_read : PutsBounded → (a : Wired) (node : Known) (ends : Account) (was now : Lists) (p : ℕ) (m : Content) → IsTied a → IsPeer (place a.ends) p →
     OnlyPops a.ends ends p → popped ends p ≡ popped a.ends p ++ m ∷ [] → Serves a.node node was now →
     Hears a.node.kept.setup p m a.node.kept.past node.kept.past → TakesOne a.node.kept node.kept p m was now → IsSound node → Takes true a (record a { node = node; ends = ends }) was now p
-takes_read a node ends was now p m t peer only came served hears taken good =
+takes_read law a node ends was now p m t peer only came served hears taken good =
     let whole : node.kept.past ≡ judge_limits a.node.kept.setup (get a.node.kept.setup p m taken.went.made a.node.kept.past) = ap (λ (k : Kept). k.past) taken.went.whole ∙ ap (judge_limits a.node.kept.setup) taken.gets in
     let same = same_part a.node node was now served.went served.keeps in record {
       goes = goes_on a node ends was now served.went served.keeps (subst (λ (past : Past). IsUntouched a.node.kept.past past) (sym whole) (taken_untouched a.node.kept.setup p m taken.went.made a.node.kept.past)) only.place only.pushed;
@@ -159,6 +158,7 @@ takes_read a node ends was now p m t peer only came served hears taken good =
             | inl e ↦ absurd (let y : is_peer a.node.kept.setup q ≡ true = ap (λ r. is_peer a.node.kept.setup r) e ∙ peer_of a p t peer in let no : true ≡ false = sym y ∙ other in cc)
             | inr d ↦ (hears.same q d).gones_is ∙ t.unlost q other
           ]);
+      puts = puts_one law a.node.kept node.kept was now served.went t.services;
       held = refl;
       pushed_is = only.pushed;
       free_is = only.free;
@@ -201,10 +201,11 @@ takes_none a ends was p t only none empty still =
         taken = t.taken;
         refused = t.refused;
         unlost = t.unlost;
-        bare = t.bare;
-        few = t.few;
+        services = t.services;
+        short = t.short;
         roomy = subst (λ (w : Place). (q : ℕ) → IsPeer w q → 0 < room w q) (sym only.place) t.roomy;
       };
+      puts = puts_none 1 a.node.kept.setup a.node.kept.past;
       held = refl;
       pushed_is = only.pushed;
       free_is = only.free;
@@ -219,6 +220,7 @@ pub takes_closed : (a : Wired) (was : Lists) (p : ℕ) → IsTied a → is_open 
 takes_closed a was p t closed = record {
   goes = goes_none (card_of a) was;
   tied = t;
+  puts = puts_none 1 a.node.kept.setup a.node.kept.past;
   held = refl;
   pushed_is = λ q. refl;
   free_is = λ q. refl;
@@ -234,6 +236,7 @@ pub takes_first : (a : Wired) (was : Lists) → IsTied a → TakesAll false a a 
 takes_first a was t = record {
   goes = goes_none (card_of a) was;
   tied = t;
+  puts = puts_none 0 a.node.kept.setup a.node.kept.past;
   held = refl;
   pushed_is = λ q. refl;
   free_is = λ q. refl;
@@ -253,6 +256,7 @@ next_own moved a was p t own = (
   λ start first same h. record {
     goes = h.goes;
     tied = h.tied;
+    puts = puts_more (p + 1) (omega arith) h.puts;
     held = h.held;
     pushed_is = h.pushed_is;
     free_is = h.free_is;
@@ -300,6 +304,7 @@ next_one moved taken a b was now p t = (
   λ start first same h. record {
     goes = goes_both (card_of start) (card_of a) (card_of b) first was now h.goes t.goes;
     tied = t.tied;
+    puts = puts_both h.puts (subst (λ (S : Setup). PutsFew 1 S a.node.kept.past b.node.kept.past) h.goes.setup t.puts);
     held = t.held ∙ h.held;
     pushed_is = λ q. t.pushed_is q ∙ h.pushed_is q;
     free_is = λ q. t.free_is q ∙ h.free_is q;

@@ -1,10 +1,12 @@
 pub mod Counting
+pub mod Calls
 pub mod Lists
 pub mod Untouched
 pub mod Going
 pub mod Outgoing
 pub mod Incoming
 pub mod Turning
+pub mod Bounding
 pub mod Starting
 pub mod Seeing
 pub mod Working

@@ -8,7 +8,9 @@ use Rattle.sk_law.specs.Past.{Past}
 use Rattle.sk_law.specs.declared.setup.Setup.{Setup}
 use Rattle.sk_law.specs.Links.{is_peer}
 use Rattle.std.specs.List.{list_all}
-use Rattle.sk_law.specs.Readings.{got, put, gones}
+use Rattle.sk_msg.specs.declared.state.State.TheVariants.{Error}
+use Rattle.sk_msg.specs.Edges.{has_edge}
+use Rattle.sk_law.specs.Readings.{state_of, got, put, gones}
 use Rattle.sk_node.specs.Known.{Known}
 use Rattle.sk_mesh.specs.Places.{Account, Place, place, size, IsPeer}
 use Rattle.sk_mesh.specs.Ends.{pushed, free, room, OnlyPushes}
@@ -241,8 +243,8 @@ one_tied moved a b p h t low = record {
   taken = low;
   refused = λ q. ap (λ (past : Past). list_all (λ reason. reason == 8) (gones past.journal q)) h.node.past ∙ t.refused q;
   unlost = λ q other. ap (λ (past : Past). gones past.journal q) h.node.past ∙ t.unlost q (ap (λ (S : Setup). is_peer S q) (sym h.node.setup) ∙ other);
-  bare = ap (λ (S : Setup). S.services) h.node.setup ∙ t.bare;
-  few = λ q. subst (λ (past : Past). length (put past.journal q) ≤ 501000) (sym h.node.past) (t.few q);
+  services = subst (λ (S : Setup). length S.services ≤ 64) (sym h.node.setup) t.services;
+  short = subst (λ (past : Past). has_edge (state_of past.journal) Error ≡ true → length past.journal < 500000) (sym h.node.past) t.short;
   roomy = subst (λ (w : Place). (q : ℕ) → IsPeer w q → 0 < room w q) (sym h.ring.place) t.roomy;
 }
   where

@@ -21,7 +21,11 @@ use Rattle.sk_rules.specs.Orders.{is_before, are_sorted}
 use Rattle.sk_rules.specs.Scripts.{is_action}
 use Rattle.sk_rules.specs.Vars.{are_vars}
 use Rattle.sk_rules.specs.declared.place.Place.TheVariants.{Ready}
-use Rattle.sk_script.specs.Services.{are_services}
+use Rattle.sk_msg.specs.declared.service.Service.{Service}
+use Rattle.sk_pubsub.specs.Announcing.{are_numbered}
+use Rattle.sk_rules.specs.Places.{is_next_own}
+use Rattle.sk_script.specs.Keys.{has_history}
+use Rattle.sk_script.specs.Services.{is_spec, is_next_service, are_services}
 use Rattle.sk_script.specs.Scenarios.{PartValue, ScenarioValue, scope_of, names_of, is_script, is_part, is_duration, is_participant_count, are_required, is_scenario}
 use Rattle.sk_sim.specs.declared.seat.Seat.{Seat}
 use Rattle.sk_sim.specs.Wiring.{IsFresh}
@@ -135,6 +139,28 @@ sized part h =
     on None e = tt
     on (Some size) e = e
 
+-- its services are at most 64, numbered from 0 on
+
+numbered_behind : (before services : List Service) → each_after is_next_service before services ≡ true → are_numbered (length before) services ≡ true
+unfolding is_next_service is_next_own
+numbered_behind before [] h = refl
+numbered_behind before (s ∷ services) h =
+    let b = and_parts (is_next_service before s) (each_after is_next_service (before ++ s ∷ []) services) h in
+    let own : is_next_own before s ≡ true = (and_parts (is_next_own before s) (is_name s.name && (is_spec s.kind s.spec && (has_history s.kind || not s.history))) b.0).0 in
+    let number : (s.id == length before) ≡ true = (and_parts (s.id == length before) (not (list_any (λ other. bytes_eq other.name s.name) before)) own).0 in
+    let more : length (before ++ s ∷ []) ≡ length before + 1 = length-append before (s ∷ []) in
+    let rest : are_numbered (length before + 1) services ≡ true = subst (λ n. are_numbered n services ≡ true) more (numbered_behind (before ++ s ∷ []) services b.1) in
+    ap (λ c. c && are_numbered (length before + 1) services) number ∙ rest
+
+few_services : (part : PartValue) → IsTrue (is_part part) → (length part.services ≤ 64) × IsTrue (are_numbered 0 part.services)
+unfolding is_part are_services
+few_services part h =
+    let a : (is_none_or is_step_size part.step && (are_services part.services && (are_vars part.vars && (list_all (is_action (scope_of part) Ready) part.ready && is_script (scope_of part) part.script)))) ≡ true = (and_parts (is_name part.name) _ h).1 in
+    let b : (are_services part.services && (are_vars part.vars && (list_all (is_action (scope_of part) Ready) part.ready && is_script (scope_of part) part.script))) ≡ true = (and_parts (is_none_or is_step_size part.step) _ a).1 in
+    let c : are_services part.services ≡ true = (and_parts (are_services part.services) _ b).0 in
+    let d = and_parts (nat_le (length part.services) 64) (each_after is_next_service [] part.services) c in
+    (leb-true (length part.services) 64 d.0, numbered_behind [] part.services d.1)
+
 -- what a seat asks of a setup and of ends
 pub record Fits (S : Setup) (a : Account) : Type 0 where
   pub own : S.number < length S.names
@@ -143,7 +169,8 @@ pub record Fits (S : Setup) (a : Account) : Type 0 where
   pub required : IfSome S.required (λ names. IsTrue (each_after is_new_name [] names))
   pub step : IfSome S.step (λ size. IsTrue (is_step_size size))
   pub duration : S.duration ≤ 2 ^ 61
-  pub services : S.services ≡ []
+  pub services : length S.services ≤ 64
+  pub numbered : IsTrue (are_numbered 0 S.services)
   pub blocking : S.is_async ≡ false
   pub ready : S.ready_async ≡ false
   pub number : a.number ≡ S.number
@@ -168,7 +195,8 @@ fits s a i part S is own law at ways =
       required = r.required;
       step = sized part (all_at is_part s.participants i part r.parts at);
       duration = r.duration;
-      services = refl;
+      services = (few_services part (all_at is_part s.participants i part r.parts at)).0;
+      numbered = (few_services part (all_at is_part s.participants i part r.parts at)).1;
       blocking = refl;
       ready = refl;
       number = sym own;

@@ -28,6 +28,8 @@ use Rattle.sk_law.specs.declared.made.Call.TheVariants as calls
 use Rattle.sk_law.specs.declared.made.Made.{Made}
 use Rattle.sk_law.specs.Lawful.{Lawful}
 use Rattle.sk_law.specs.Blocks.{with_pause}
+use Rattle.sk_law.specs.Bounded.{PutsBounded}
+use Rattle.sk_sim.proofs.Calls.{puts_none, puts_one}
 use Rattle.sk_law.specs.Told.{heard as heard_of, notices}
 use Rattle.sk_node.specs.declared.rows.Turned.{Turned}
 use Rattle.sk_node.specs.declared.rows.Turned.TheVariants.{Entries, Counted, Quiet, Finished}
@@ -36,7 +38,7 @@ use Rattle.sk_mesh.specs.Ends.{pushed, popped, waiting, room, Looks}
 use Rattle.sk_sim.specs.declared.wired.Wired.{Wired}
 use Rattle.sk_sim.specs.Wiring.{IsTied, waits, waits_of, held_at, out_of}
 use Rattle.sk_sim.specs.Cards.{Card, card_of, count_at, counts, waits_at, pushed_total, got_total, total}
-use Rattle.sk_sim.specs.Parts.{Goes, IsUntouched, Pushes, TakesAll}
+use Rattle.sk_sim.specs.Parts.{Goes, IsUntouched, PutsFew, Pushes, TakesAll}
 use Rattle.sk_sim.specs.Answers.{Acts, Turns, Says, MovesNone, Rests, answer_of, has_none}
 use Rattle.sk_sim.proofs.Counting.{count_is, counts_same, total_more}
 use Rattle.sk_sim.proofs.Going.{goes_none, goes_both, tells_none}
@@ -49,10 +51,10 @@ row_untouched : (one : law.Row) (a b : Kept) (was now : Lists) → RowWent one a
 row_untouched one a b was now r =
     subst (λ (k : Kept). IsUntouched a.past k.past) (sym r.went.whole) (acted_untouched a.setup a.past one r.went.made r.went.past r.acts)
 
-pub acts_of : (did : Turned) (a : Wired) (node : Known) (was now : Lists) → IsTied a → IsTurned did a.node node was now →
+pub acts_of : PutsBounded → (did : Turned) (a : Wired) (node : Known) (was now : Lists) → IsTied a → IsTurned did a.node node was now →
     HearsNothing a.node.kept.setup a.node.kept.past node.kept.past → (did ≡ Finished → IsEnded a.node.kept) → IsSound node →
     Acts did a (record a { node = node }) was now
-acts_of did a node was now t turned hears ended good = on did turned ended
+acts_of bounded did a node was now t turned hears ended good = on did turned ended
   where
     got_is : (p : ℕ) → got node.kept.past.journal p ≡ popped a.ends p
     got_is p = (hears.same p).got_is ∙ t.got_is p
@@ -65,6 +67,7 @@ acts_of did a node was now t turned hears ended good = on did turned ended
       goes = subst (λ (k : Known). Goes (card_of a) (card_of (record a { node = k })) was now) (sym same)
           (subst (λ (l : Lists). Goes (card_of a) (card_of a) was l) (sym lists) (goes_none (card_of a) was));
       tied = subst (λ (k : Known). IsTied (record a { node = k })) (sym same) t;
+      puts = subst (λ (k : Known). PutsFew 1 a.node.kept.setup a.node.kept.past k.kept.past) (sym same) (puts_none 1 a.node.kept.setup a.node.kept.past);
       ends = refl;
       held = refl;
       turned = turned_;
@@ -75,6 +78,7 @@ acts_of did a node was now t turned hears ended good = on did turned ended
     on (Entries n) x e = record {
       goes = goes_on a node a.ends was now x.0.row.went x.1 (row_untouched x.0.one a.node.kept node.kept was now x.0.row) refl (λ q. refl);
       tied = tied_on a node a.ends t (same_part a.node node was now x.0.row.went x.1) good refl (λ q. refl) got_is ((hears.same a.ends.number).got_is ∙ t.silent) refused (λ p other. (hears.same p).gones_is ∙ t.unlost p other);
+      puts = puts_one bounded a.node.kept node.kept was now x.0.row.went t.services;
       ends = refl;
       held = refl;
       turned = x;
@@ -83,6 +87,7 @@ acts_of did a node was now t turned hears ended good = on did turned ended
     on Counted x e = record {
       goes = goes_on a node a.ends was now x.0.row.went x.1 (row_untouched (law.Count x.0.count) a.node.kept node.kept was now x.0.row) refl (λ q. refl);
       tied = tied_on a node a.ends t (same_part a.node node was now x.0.row.went x.1) good refl (λ q. refl) got_is ((hears.same a.ends.number).got_is ∙ t.silent) refused (λ p other. (hears.same p).gones_is ∙ t.unlost p other);
+      puts = puts_one bounded a.node.kept node.kept was now x.0.row.went t.services;
       ends = refl;
       held = refl;
       turned = x;
@@ -134,8 +139,8 @@ looked_tied a ends p l t = record {
   taken = t.taken;
   refused = t.refused;
   unlost = t.unlost;
-  bare = t.bare;
-  few = t.few;
+  services = t.services;
+  short = t.short;
   roomy = subst (λ (w : Place). (q : ℕ) → IsPeer w q → 0 < room w q) (sym l.place) t.roomy;
 }
 

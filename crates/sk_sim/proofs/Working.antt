@@ -17,7 +17,7 @@ use Rattle.sk_sim.specs.declared.wired.Wired.{Wired}
 use Rattle.sk_sim.specs.declared.seat.Seat.{Seat}
 use Rattle.sk_sim.specs.declared.rounds.Together.{Together}
 use Rattle.sk_sim.specs.declared.rounds.Together.TheVariants.{Moved, Still, Done}
-use Rattle.sk_sim.specs.Wiring.{IsTied, waits}
+use Rattle.sk_sim.specs.Wiring.{IsTied, IsBounded, waits}
 use Rattle.sk_sim.specs.Cards.{Card, card_of, count_at, waits_at, pushed_total, got_total, IsFinished}
 use Rattle.sk_sim.specs.Parts.{Goes}
 use Rattle.sk_sim.specs.Answers.{Turns, Moves, MovesNone, Rests}
@@ -35,17 +35,17 @@ use Rattle.sk_sim.proofs.Seeing.{card_at, view_at, place_at, seat_at, of_mesh}
 -- ## The bounds
 
 -- so many were pushed at most
-pub sent_most : (a : Wired) → IsTied a → pushed_total (card_of a) ≤ 16032000
-sent_most a t =
-    let m = total_most (λ q. count_at (card_of a) q) (size (place a.ends)) 501000
+pub sent_most : (a : Wired) → IsTied a → IsBounded a.node.kept → pushed_total (card_of a) ≤ 179200000
+sent_most a t bounded =
+    let m = total_most (λ q. count_at (card_of a) q) (size (place a.ends)) 5600000
     (λ q low.
     let c = count_is a.ends q in
     let e : length (put a.node.kept.past.journal q) ≡ length (pushed a.ends q) + length (waits a q) = ap length (t.put_is q) ∙ length-append (pushed a.ends q) (waits a q) in
-    let f = t.few q in omega arith) in
+    let w = t.ways in let f = bounded.few q (omega arith) in omega arith) in
     let l = t.least in omega arith
 
 -- what is left falls with each thing that is done
-pub rank_less : (a b : Card) (was now : Lists) → Goes a b was now → Moves a b → pushed_total b ≤ 16032000 → got_total a ≤ 16032000 → rank b < rank a
+pub rank_less : (a b : Card) (was now : Lists) → Goes a b was now → Moves a b → pushed_total b ≤ 179200000 → got_total a ≤ 179200000 → rank b < rank a
 rank_less a b was now g moves most low =
     let l = g.lower in let s = sent_of a b was now g in let h = heard_more a b was now g in
     elim moves [
@@ -210,17 +210,17 @@ pub record Took {A : Type 0} {G : App.Ghosts A} (ps : List Place) (start : List 
 
 module _ {A : Type 0} {G : App.Ghosts A} where
   -- what was got of each other one was put by it, and it puts but so many
-  heard_most : (ss : List (Seat A G)) (i : ℕ) (s : Seat A G) → IsMesh (places (cards ss)) → NoneFailed (views ss) → SeesTo i (length ss) ss → slice_get ss i ≡ Some s → got_total (card_of s.wired) ≤ 16032000
+  heard_most : (ss : List (Seat A G)) (i : ℕ) (s : Seat A G) → IsMesh (places (cards ss)) → NoneFailed (views ss) → SeesTo i (length ss) ss → slice_get ss i ≡ Some s → got_total (card_of s.wired) ≤ 179200000
   heard_most ss i s mesh fine h at =
       let t = s.tied (fine i (view s) (view_at ss i s at)) in
       let m = of_mesh ss i s mesh at in
-      let all = total_most (λ p. length (got s.wired.node.kept.past.journal p)) (size (place s.wired.ends)) 501000 (λ p low. one p low) in
+      let all = total_most (λ p. length (got s.wired.node.kept.past.journal p)) (size (place s.wired.ends)) 5600000 (λ p low. one p low) in
       let l = t.least in omega arith
     where
       t : IsTied s.wired
       t = s.tied (fine i (view s) (view_at ss i s at))
 
-      one : (p : ℕ) → p < size (place s.wired.ends) → length (got s.wired.node.kept.past.journal p) ≤ 501000
+      one : (p : ℕ) → p < size (place s.wired.ends) → length (got s.wired.node.kept.past.journal p) ≤ 5600000
       one p low =
           let m = of_mesh ss i s mesh at in
           elim (cases_eq p i) [
@@ -232,7 +232,8 @@ module _ {A : Type 0} {G : App.Ghosts A} where
                 let a = length-append (popped s.wired.ends p ++ waiting s.wired.ends p) (waits_at (card_of o.0.wired) s.wired.ends.number) in
                 let b = length-append (popped s.wired.ends p) (waiting s.wired.ends p) in
                 let g : length (got s.wired.node.kept.past.journal p) ≡ length (popped s.wired.ends p) = ap length (t.got_is p) in
-                let q = u.few s.wired.ends.number in omega arith
+                let w = u.ways in let n = (of_mesh ss p o.0 mesh o.1).1 in let l = slice_get_within ss i s at in
+                let q = (o.0.bounded (fine p (view o.0) (view_at ss p o.0 o.1))).few s.wired.ends.number (let x = m.0 in omega arith) in omega arith
           ]
 
   -- a seat that used up what it knew, and did nothing
@@ -275,12 +276,12 @@ module _ {A : Type 0} {G : App.Ghosts A} where
       sees : (q : ℕ) (d : Card) → q ≢ i → slice_get (cards ss) q ≡ Some d → Sees s.wired.ends q d
       sees q d other at_q = h.sees s q d (low_at q d at_q) other at at_q
 
-  act : (r : Turned) (ss : List (Seat A G)) (i : ℕ) (s t : Seat A G) (was now : Lists) → IsMesh (places (cards ss)) → NoneFailed (views ss) → IsTied s.wired → SeesTo i (length ss) ss → slice_get ss i ≡ Some s
-      → Turns r s.wired t.wired was now → Act r (cards ss) i (card_of s.wired) (card_of t.wired)
-  act (Entries n) ss i s t was now mesh fine k h at turned = rank_less (card_of s.wired) (card_of t.wired) was now turned.goes turned.says.less (sent_most t.wired turned.tied) (heard_most ss i s mesh fine h at)
-  act Counted ss i s t was now mesh fine k h at turned = rank_less (card_of s.wired) (card_of t.wired) was now turned.goes (inl turned.says.1.less) (sent_most t.wired turned.tied) (heard_most ss i s mesh fine h at)
-  act Quiet ss i s t was now mesh fine k h at turned = (turned.says.1.same, stood_still ss i s t was now mesh k h at turned.says.1 turned.says.0, turned.says.2)
-  act Finished ss i s t was now mesh fine k h at turned = (turned.says.1.same, stood_still ss i s t was now mesh k h at turned.says.1 turned.says.0, turned.says.2)
+  act : (r : Turned) (ss : List (Seat A G)) (i : ℕ) (s t : Seat A G) (was now : Lists) → IsMesh (places (cards ss)) → NoneFailed (views ss) → IsTied s.wired → IsBounded t.wired.node.kept → SeesTo i (length ss) ss
+      → slice_get ss i ≡ Some s → Turns r s.wired t.wired was now → Act r (cards ss) i (card_of s.wired) (card_of t.wired)
+  act (Entries n) ss i s t was now mesh fine k b h at turned = rank_less (card_of s.wired) (card_of t.wired) was now turned.goes turned.says.less (sent_most t.wired turned.tied b) (heard_most ss i s mesh fine h at)
+  act Counted ss i s t was now mesh fine k b h at turned = rank_less (card_of s.wired) (card_of t.wired) was now turned.goes (inl turned.says.1.less) (sent_most t.wired turned.tied b) (heard_most ss i s mesh fine h at)
+  act Quiet ss i s t was now mesh fine k b h at turned = (turned.says.1.same, stood_still ss i s t was now mesh k h at turned.says.1 turned.says.0, turned.says.2)
+  act Finished ss i s t was now mesh fine k b h at turned = (turned.says.1.same, stood_still ss i s t was now mesh k h at turned.says.1 turned.says.0, turned.says.2)
 
   pub took : (ps : List Place) (start : List (View G.Origin)) (b : List (View G.Origin)) (so_far : Together) (did : Turned) (n i : ℕ) (ss : List (Seat A G)) (s t : Seat A G)
       → IsMesh ps → places (cards_in b) ≡ ps → NoneFailed b → AllWentOn start b → Round so_far (cards_in start) (cards_in b) i
@@ -303,7 +304,7 @@ module _ {A : Type 0} {G : App.Ghosts A} where
         sound = subst (λ x. NoneFailed x) (sym vs) (fine_set (views ss) i (view t) e fine_t);
         went = subst (λ x. AllWentOn start x) (sym vs) (went_set start (views ss) i (view s) (view t) w (view_at ss i s at) (record { goes = turned.goes; origin = origin }));
         round = subst (λ x. Round (together did so_far) (cards_in start) x (i + 1)) (sym c)
-            (round_next did so_far (cards_in start) (cards ss) i (card_of s.wired) (card_of t.wired) r (card_at ss i s at) (act did ss i s t (G.lists s.app) (G.lists t.app) m e (s.tied fine_s) v at turned));
+            (round_next did so_far (cards_in start) (cards ss) i (card_of s.wired) (card_of t.wired) r (card_at ss i s at) (act did ss i s t (G.lists s.app) (G.lists t.app) m e (s.tied fine_s) (t.bounded fine_t) v at turned));
       }
 
   pub all_cards : (ss : List (Seat A G)) (n : ℕ) → length ss ≤ n → length (cards ss) ≤ n

@@ -17,7 +17,7 @@ use Rattle.sk_mesh.specs.Ends.{free, waiting}
 use Rattle.sk_sim.specs.declared.wired.Wired.{Wired}
 use Rattle.sk_sim.specs.Wiring.{IsTied}
 use Rattle.sk_sim.specs.Cards.{Card, card_of, pushed_total, got_total, waits_at, IsFinished}
-use Rattle.sk_sim.specs.Parts.{Goes, Pushes, TakesAll}
+use Rattle.sk_sim.specs.Parts.{Goes, PutsFew, Pushes, TakesAll}
 
 -- the participant has less to do, or a message was moved to a ring or from one
 abbrev pub Moves : Card → Card → Type 0
@@ -87,6 +87,7 @@ answer_of Finished false added empty = if empty then Finished else Quiet
 pub record Acts (did : Turned) (a b : Wired) (was now : Lists) : Type 0 where
   pub goes : Goes (card_of a) (card_of b) was now
   pub tied : IsTied b
+  pub puts : PutsFew 1 a.node.kept.setup a.node.kept.past b.node.kept.past
   pub ends : b.ends ≡ a.ends
   pub held : b.held.items ≡ a.held.items
   pub turned : IsTurned did a.node b.node was now

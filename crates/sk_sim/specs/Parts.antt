@@ -1,5 +1,5 @@
 -- What the parts of a turn do.
-use Rattle.std.specs.Prelude.{◌≡◌, ◌≢◌, ◌<◌, ◌≤◌, ◌⊎◌, ℕ, Bool, true, false, List, [], ◌∷◌, ◌++◌, ◌+◌, length}
+use Rattle.std.specs.Prelude.{◌≡◌, ◌≢◌, ◌<◌, ◌≤◌, ◌⊎◌, ℕ, Bool, true, false, List, [], ◌∷◌, ◌++◌, ◌+◌, ◌*◌, length}
 use mathlib.Core.List.{IsPrefix}
 use Rattle.std.specs.List.{list_any}
 use Rattle.sk_msg.specs.declared.content.Content.{Content}
@@ -7,10 +7,13 @@ use Rattle.sk_msg.specs.declared.entry.Entry.{Entry}
 use Rattle.sk_msg.specs.declared.entry.Entry.TheVariants.{Stray}
 use Rattle.sk_law.specs.declared.made.Made.{Made}
 use Rattle.sk_law.specs.Past.{Past}
-use Rattle.sk_law.specs.Ends.{left}
+use Rattle.sk_law.specs.declared.setup.Setup.{Setup}
+use Rattle.sk_law.specs.Bounded.{IsStill}
+use Rattle.sk_law.specs.Ends.{left, states_left}
+use Rattle.sk_law.specs.Receivers.{is_over}
 use Rattle.sk_law.specs.Lawful.{Lawful}
 use Rattle.sk_law.specs.Links.{is_open}
-use Rattle.sk_law.specs.Readings.{got}
+use Rattle.sk_law.specs.Readings.{state_of, got, put}
 use Rattle.sk_node.specs.Lists.{Lists, Tells}
 use Rattle.sk_mesh.specs.Places.{place}
 use Rattle.sk_mesh.specs.Ends.{pushed, popped, free, waiting, OnlyPushes}
@@ -42,6 +45,14 @@ pub record Goes (a b : Card) (was now : Lists) : Type 0 where
   pub untouched : IsUntouched a.past b.past
   pub lower : left b.past ≤ left a.past
   pub more : (q : ℕ) → count_at a q ≤ count_at b q
+
+-- what at most n calls of a participant put: each at most 51,000 messages to one number. No state comes back; and where nothing is
+-- handed any more, nothing is put to another participant, unless the state goes on
+pub record PutsFew (n : ℕ) (S : Setup) (a b : Past) : Type 0 where
+  pub few : (q : ℕ) → length (put b.journal q) ≤ length (put a.journal q) + n * 51000
+  pub states : states_left (state_of b.journal) ≤ states_left (state_of a.journal)
+  pub over : is_over (state_of a.journal) ≡ true →
+      IsStill S a b ⊎ (states_left (state_of b.journal) < states_left (state_of a.journal))
 
 -- ## Pushing
 
@@ -98,6 +109,7 @@ pub record IsSameFrom (a b : Wired) (q : ℕ) : Type 0 where
 pub record Takes (moved : Bool) (a b : Wired) (was now : Lists) (p : ℕ) : Type 0 where
   pub goes : Goes (card_of a) (card_of b) was now
   pub tied : IsTied b
+  pub puts : PutsFew 1 a.node.kept.setup a.node.kept.past b.node.kept.past
   pub held : b.held.items ≡ a.held.items
   pub pushed_is : (q : ℕ) → pushed b.ends q ≡ pushed a.ends q
   pub free_is : (q : ℕ) → free b.ends q ≡ free a.ends q
@@ -111,6 +123,7 @@ pub record Takes (moved : Bool) (a b : Wired) (was now : Lists) (p : ℕ) : Type
 pub record TakesAll (moved : Bool) (a b : Wired) (was now : Lists) (n : ℕ) : Type 0 where
   pub goes : Goes (card_of a) (card_of b) was now
   pub tied : IsTied b
+  pub puts : PutsFew n a.node.kept.setup a.node.kept.past b.node.kept.past
   pub held : b.held.items ≡ a.held.items
   pub pushed_is : (q : ℕ) → pushed b.ends q ≡ pushed a.ends q
   pub free_is : (q : ℕ) → free b.ends q ≡ free a.ends q

@@ -35,7 +35,7 @@ setup_by S number part = record {
   step = part.step;
   is_async = false;
   ready_async = false;
-  services = [];
+  services = part.services;
   duration = S.duration;
   required = Some S.required;
 }

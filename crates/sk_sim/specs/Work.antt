@@ -4,9 +4,9 @@ use Rattle.std.specs.List.{sum_by}
 use Rattle.sk_law.specs.Ends.{left}
 use Rattle.sk_sim.specs.Cards.{Card, pushed_total, got_total}
 
--- more messages than a participant pushes or gets: at most 501,000 to and from each of at most 32
+-- more messages than a participant pushes or gets: at most 5,600,000 to and from each of at most 32
 abbrev pub ceiling : ℕ
-ceiling = 16533000
+ceiling = 184800000
 
 -- the turns that may still do something, the messages that may still be pushed, and those that may still be got
 abbrev pub rank : Card → ℕ

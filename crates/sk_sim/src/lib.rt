@@ -22,7 +22,7 @@
 //!
 //! A round costs what it moves and adds. A seat that has nothing to do looks at its rings and at its
 //! peers a few times, and at no journal. All journals stand in memory until the run is over, 64 bytes
-//! for each entry; each has a little over 500,000 entries at most.
+//! for each entry; each has 500,000 entries and what one call more adds, and a few behind these.
 #![tactic(auto)]
 
 mod looks;

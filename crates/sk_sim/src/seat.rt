@@ -1,12 +1,12 @@
 //! A participant in its seat.
 
 ghost use Rattle.std.specs.Prelude.{◌≡◌, false, None, replicate, IfOk};
-ghost use Rattle.sk_sim.specs.Wiring.{IsTied};
+ghost use Rattle.sk_sim.specs.Wiring.{IsTied, IsBounded};
 
 use crate::turns;
 use crate::wired::Wired;
 use sk_base::WantOfMemory;
-use sk_law::Setup;
+use sk_law::{Setup, what_is_put_is_bounded};
 use sk_mesh::Ends;
 use sk_msg::{Entry, Message};
 use sk_node::{App, Node, Turned};
@@ -19,19 +19,22 @@ use std::alloc::Global;
 /// memory each turn answers want of memory again.
 ///
 /// Until then its type keeps that, per peer, the messages that its journal got are those popped, and
-/// those that it put are those pushed followed by those that wait.
+/// those that it put are those pushed followed by those that wait; and that its journal is lawful and so
+/// few messages were put to each peer that rounds come to an end.
 #[derive(Drop)]
 pub struct Seat<A: App> {
     wired: Wired,
     app: A,
     failed: bool,
     ghost tied: { failed ≡ false → IsTied wired },
+    ghost bounded: { failed ≡ false → IsBounded wired.node.kept },
 }
 
 impl<A: App> Seat<A> {
     ghost use Rattle.std.specs.Prelude.{◌≡◌, ◌<◌, ◌≤◌, ◌^◌, [], true, false, length, IsTrue, IsErr, IfOk, OnOk, OnErr, IfSome};
     ghost use Rattle.sk_msg.specs.Each.{each_after};
     ghost use Rattle.sk_msg.specs.Rules.{is_step_size, is_new_name};
+    ghost use Rattle.sk_pubsub.specs.Announcing.{are_numbered};
     ghost use Rattle.sk_law.specs.Blocks.{making};
     ghost use Rattle.sk_mesh.specs.Places.{place, size, AreOfOneMesh};
     ghost use Rattle.sk_mesh.specs.Ends.{Looks, Knows};
@@ -50,7 +53,8 @@ impl<A: App> Seat<A> {
         requires required { IfSome setup.required (λ names. IsTrue (each_after is_new_name [] names)) }
         requires step { IfSome setup.step (λ size. IsTrue (is_step_size size)) }
         requires duration { setup.duration ≤ 2 ^ 61 }
-        requires services { setup.services ≡ [] }
+        requires services { length setup.services ≤ 64 }
+        requires numbered { IsTrue (are_numbered 0 setup.services) }
         requires blocking { setup.is_async ≡ false }
         requires ready { setup.ready_async ≡ false }
         requires number { ends.number ≡ setup.number }
@@ -62,6 +66,7 @@ impl<A: App> Seat<A> {
         ensures app { IfOk result (λ seat. seat.app ≡ app) }
     {
         let held = no_messages(alloc, ends.size())?;
+        what_is_put_is_bounded();
         let node = Node::new(alloc, setup)?;
         let _ = node.journal();
         Ok(Seat {

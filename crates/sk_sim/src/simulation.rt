@@ -16,7 +16,7 @@ use crate::seat::Seat;
 use sk_base::WantOfMemory;
 use sk_law::{Services, Setup};
 use sk_mesh::{Ends, mesh};
-use sk_msg::{Entry, Names};
+use sk_msg::{Entry, Names, Service};
 use sk_script::{Part, Scenario};
 use std::alloc::Global;
 
@@ -124,6 +124,7 @@ fn setup(
     ensures { IfOk result (λ setup. setup ≡ setup_by scenario.now number part.now) }
 {
     let names = names(alloc, scenario.participants())?;
+    let services = services(alloc, part.services())?;
     let required = scenario.required().copy(alloc)?;
     Ok(Setup {
         number,
@@ -132,10 +133,21 @@ fn setup(
         step: part.step(),
         is_async: false,
         ready_async: false,
-        services: Services::new(Vec::new(alloc)),
+        services,
         duration: scenario.duration(),
         required: Some(required),
     })
+}
+
+/// The same services again.
+fn services(alloc: Global, services: &[Service]) -> Result<Services, WantOfMemory>
+    ensures { IfOk result (λ copy. copy ≡ services.now) }
+{
+    let mut copies = Vec::new(alloc);
+    for service in services {
+        copies.push(service.copy(alloc)?)?;
+    }
+    Ok(Services::new(copies))
 }
 
 /// The names of these participants.

@@ -7,6 +7,7 @@ ghost use Rattle.sk_sim.specs.Parts.{Takes, TakesAll, TakesNext};
 
 use crate::wired::Wired;
 use sk_base::WantOfMemory;
+use sk_law::what_is_put_is_bounded;
 use sk_node::App;
 
 /// Takes a message of this peer, if it is open and one is there. Answers whether one was taken.
@@ -23,6 +24,7 @@ fn take_one<A: App>(wired: &mut Wired, app: &mut A, peer: u32) -> Result<bool, W
     let Some(message) = wired.ends.pop(peer) else {
         return Ok(false);
     };
+    what_is_put_is_bounded();
     wired.node.take(peer, message, app)?;
     let _ = wired.node.journal();
     Ok(true)

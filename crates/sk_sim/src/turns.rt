@@ -1,14 +1,16 @@
 //! One turn of a participant that is wired to its rings.
 
-ghost use Rattle.std.specs.Prelude.{◌≡◌, ◌||◌, IfOk};
+ghost use Rattle.std.specs.Prelude.{◌≡◌, ◌||◌, IfOk, OnOk};
 ghost use Rattle.sk_mesh.specs.Places.{place};
-ghost use Rattle.sk_sim.specs.Wiring.{IsTied};
+ghost use Rattle.sk_sim.specs.Wiring.{IsTied, IsBounded};
 ghost use Rattle.sk_sim.specs.Answers.{Acts, Turns, answer_of, has_none};
 
 use crate::pushing::push_all;
 use crate::taking::take_each;
 use crate::wired::Wired;
 use sk_base::WantOfMemory;
+use sk_law::what_is_put_is_bounded;
+use sk_law_world::states_walk;
 use sk_msg::Message;
 use sk_node::{App, Turned};
 
@@ -16,10 +18,14 @@ use sk_node::{App, Turned};
 /// turn, and pushes again.
 pub fn turn<A: App>(wired: &mut Wired, app: &mut A) -> Result<Turned, WantOfMemory>
     requires tied { IsTied wired.old }
+    requires bounded { IsBounded wired.old.node.kept }
     ensures place { place wired.new.ends ≡ place wired.old.ends }
+    ensures bounded { OnOk result (IsBounded wired.new.node.kept) }
     ensures ok { IfOk result (λ turned. Turns turned wired.old wired.new (A.lists app.old) (A.lists app.new)) }
     ensures origin { A.origin app.new ≡ A.origin app.old }
 {
+    what_is_put_is_bounded();
+    states_walk();
     let before = wired.node.journal().len();
     let pushed = push_all(wired);
     let taken = take_each(wired, app)?;
@@ -38,6 +44,7 @@ fn act<A: App>(wired: &mut Wired, app: &mut A) -> Result<Turned, WantOfMemory>
     ensures ok { IfOk result (λ turned. Acts turned wired.old wired.new (A.lists app.old) (A.lists app.new)) }
     ensures origin { A.origin app.new ≡ A.origin app.old }
 {
+    what_is_put_is_bounded();
     let turned = wired.node.turn(app)?;
     let _ = wired.node.journal();
     Ok(turned)

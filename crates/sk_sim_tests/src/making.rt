@@ -3,6 +3,7 @@
 ghost use Rattle.std.specs.Prelude.{◌≡◌, ◌≤◌, [], IsTrue, IfOk, All, length, map};
 ghost use Rattle.sk_msg.specs.Each.{each_after};
 ghost use Rattle.sk_msg.specs.Rules.{is_new_name};
+ghost use Rattle.sk_pubsub.specs.Announcing.{are_numbered};
 ghost use Rattle.sk_law.specs.World.{are_sorted};
 ghost use Rattle.sk_mesh.specs.Places.{place, IsMesh};
 ghost use Rattle.sk_mesh.specs.Ends.{IsUnused};
@@ -12,11 +13,11 @@ ghost use Rattle.sk_sim.specs.Runs.{AreAlike};
 ghost use Rattle.sk_sim_tests.specs.Made.{AreNames, IsMade, AreMade, AreFresh};
 
 use crate::player::{Calls, Player, Wish};
-use sk_base::Name;
+use sk_base::{Name, Text};
 use sk_law::{Services, Setup};
 use sk_mesh::{Ends, mesh};
-use sk_msg::Names;
 use sk_msg::rules::is_step_size;
+use sk_msg::{Names, Service, ServiceKind, Spec};
 use sk_sim::Seat;
 use std::alloc::Global;
 use std::process::Abort;
@@ -31,6 +32,8 @@ pub struct Role {
     pub step: Option<u64>,
     /// What its app asks for in its first step.
     pub wish: Wish,
+    /// Of what kind its one service is, if it has one.
+    pub service: Option<ServiceKind>,
 }
 
 /// A coordinated one with steps of this size in ns, whose app asks for nothing.
@@ -39,6 +42,7 @@ pub const fn stepping(step: u64) -> Role {
         coordinated: true,
         step: Some(step),
         wish: Wish::Nothing,
+        service: None,
     }
 }
 
@@ -57,6 +61,27 @@ fn names(alloc: Global, are_three: bool) -> Result<Names, Fail>
     }
     names.push(Name::new(alloc, "C")?)?;
     Ok(Names::new(names))
+}
+
+/// No service, or one of this kind, of the topic T.
+fn services(alloc: Global, kind: Option<ServiceKind>) -> Result<Services, Fail>
+    ensures few { IfOk result (λ services. length services ≤ 64) }
+    ensures numbered { IfOk result (λ services. IsTrue (are_numbered 0 services)) }
+{
+    let mut services = Vec::new(alloc);
+    let Some(kind) = kind else {
+        return Ok(Services::new(services));
+    };
+    let topic = Name::new(alloc, "T")?;
+    let media = Text::new(alloc, "")?;
+    services.push(Service {
+        id: 0,
+        kind,
+        name: Name::new(alloc, "S")?,
+        spec: Spec::new(topic, media, Vec::new(alloc))?,
+        history: false,
+    })?;
+    Ok(Services::new(services))
 }
 
 /// A seat for the participant of these ends, in a simulation that needs all.
@@ -86,7 +111,7 @@ fn make_seat(
         step: role.step,
         is_async: false,
         ready_async: false,
-        services: Services::new(Vec::new(alloc)),
+        services: services(alloc, role.service)?,
         duration: DURATION,
         required: Some(names.copy(alloc)?),
     };

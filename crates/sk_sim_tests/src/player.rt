@@ -2,7 +2,7 @@
 
 ghost use Rattle.std.specs.Prelude.{◌≡◌, IfOk};
 
-use sk_base::{SimTime, WantOfMemory};
+use sk_base::{Bytes, SimTime, WantOfMemory};
 use sk_law::{Actions, Call, Heard, Made, Notice, Outbox};
 use sk_msg::{Action, Command, Message, State};
 use sk_node::App;
@@ -17,6 +17,8 @@ pub enum Wish {
     Stop,
     /// A pause of so many turns.
     Pause(u32),
+    /// A publication by its service 0.
+    Publish,
 }
 
 /// How often apps were called.
@@ -84,13 +86,18 @@ fn copy_actions(alloc: Global, actions: &[Action]) -> Result<Actions, WantOfMemo
 }
 
 /// Asks for it.
-fn ask(out: &mut Outbox, wish: Wish) {
+fn ask(alloc: Global, out: &mut Outbox, wish: Wish) -> Result<(), WantOfMemory> {
     let action = match wish {
-        Wish::Nothing => return,
+        Wish::Nothing => return Ok(()),
         Wish::Stop => Action::Ask(Command::Stop),
         Wish::Pause(turns) => Action::PauseFor(turns),
+        Wish::Publish => match Bytes::new(alloc, b"7") {
+            Ok(payload) => Action::Publish(0, payload),
+            Err(_fault) => return Err(WantOfMemory),
+        },
     };
     if let Err(_action) = out.add(action) {}
+    Ok(())
 }
 
 impl App for Player {
@@ -115,7 +122,7 @@ impl App for Player {
     fn on_step(&mut self, number: u64, at: SimTime, out: &mut Outbox) -> Result<(), WantOfMemory> {
         count(&self.calls.steps);
         if number == 1 {
-            ask(out, self.wish);
+            ask(self.alloc, out, self.wish)?;
         }
         let actions = copy_actions(self.alloc, out.actions())?;
         let over = out.is_over();

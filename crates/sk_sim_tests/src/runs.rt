@@ -3,7 +3,7 @@
 use crate::making::{Role, seats, stepping};
 use crate::player::{Calls, Wish};
 use crate::words::{got, own};
-use sk_msg::Entry;
+use sk_msg::{Entry, ServiceKind};
 use sk_sim::turn_rounds;
 use std::alloc::Global;
 use std::process::Abort;
@@ -115,16 +115,19 @@ fn three_wait_for_each_other(rt: HostRuntime) -> Result<(), Fail> {
             coordinated: true,
             step: Some(1000),
             wish: Wish::Stop,
+            service: None,
         },
         Role {
             coordinated: true,
             step: None,
             wish: Wish::Nothing,
+            service: None,
         },
         Role {
             coordinated: false,
             step: Some(1000),
             wish: Wish::Nothing,
+            service: None,
         },
     ];
     let calls = Rc::new(alloc, Calls::new())?;
@@ -170,4 +173,48 @@ fn apps_are_called(rt: HostRuntime) -> Result<(), Fail> {
     assert_eq!(rt; calls.stops.get(), 2);
     assert_eq!(rt; calls.shutdowns.get(), 2);
     Ok(())
+}
+
+// A publishes in its first step, and B, which subscribes, is handed that before its step at 1000: it is
+// the tenth message of A, between the announcements of 0 and 1000.
+#[test]
+fn a_publication_is_handed_before_the_next_step(rt: HostRuntime) -> Result<(), Fail> {
+    let alloc = rt.alloc();
+    let (a, b) = (stepping(1000), stepping(1000));
+    let sender = Role {
+        coordinated: a.coordinated,
+        step: a.step,
+        wish: Wish::Publish,
+        service: Some(ServiceKind::Publisher),
+    };
+    let receiver = Role {
+        coordinated: b.coordinated,
+        step: b.step,
+        wish: b.wish,
+        service: Some(ServiceKind::Subscriber),
+    };
+    let calls = Rc::new(alloc, Calls::new())?;
+    let (journals, finished) = run(&rt, alloc, 64, &[sender, receiver], &calls)?;
+    assert!(rt; finished);
+    expect(
+        &rt,
+        alloc,
+        &journals,
+        &[
+            (
+                ALL[0].0,
+                "Hello ServiceAdd ServicesEnd ServicesCreated CommunicationInitializing \
+                 CommunicationInitialized ReadyToRun Running next 0 publish 0 1 next 1000 next 2000 \
+                 next 3000 Stopping Stopped ShuttingDown Shutdown Leave ",
+            ),
+            (
+                "ServicesCreated CommunicationInitializing CommunicationInitialized ReadyToRun \
+                 Running begin 1 0 end 1 hand 0 10 0 begin 2 1000 end 2 begin 3 2000 end 3 \
+                 Stopping Stopped ShuttingDown Shutdown ",
+                "Hello ServiceAdd ServicesEnd ServicesCreated CommunicationInitializing \
+                 CommunicationInitialized ReadyToRun Running next 0 next 1000 next 2000 next 3000 \
+                 Stopping Stopped ShuttingDown Shutdown Leave ",
+            ),
+        ],
+    )
 }

@@ -4,7 +4,7 @@ use sk_msg::{Content, Entry, Message};
 use std::alloc::Global;
 use std::test::Fail;
 
-/// Its own states and steps, each word with a space behind it.
+/// Its own states and steps, and what was handed, each word with a space behind it.
 pub fn own(alloc: Global, journal: &[Entry]) -> Result<String, Fail> {
     let mut text = String::new(alloc);
     for entry in journal {
@@ -12,6 +12,11 @@ pub fn own(alloc: Global, journal: &[Entry]) -> Result<String, Fail> {
             Entry::State(state) => format!(in alloc; "{state} ")?,
             Entry::Begin(number, at) => format!(in alloc; "begin {number} {} ", at.ns())?,
             Entry::End(number) => format!(in alloc; "end {number} ")?,
+            Entry::Hand {
+                peer,
+                place,
+                service,
+            } => format!(in alloc; "hand {peer} {place} {service} ")?,
             _ => String::new(alloc),
         };
         text.push_str(word.as_str())?;
@@ -36,9 +41,15 @@ pub fn got(alloc: Global, journal: &[Entry], from: usize) -> Result<String, Fail
 fn said(alloc: Global, message: &Message) -> Result<String, Fail> {
     Ok(match message.content() {
         Content::Hello { .. } => format!(in alloc; "Hello ")?,
+        Content::ServiceAdd { .. } => format!(in alloc; "ServiceAdd ")?,
         Content::ServicesEnd => format!(in alloc; "ServicesEnd ")?,
         Content::Status { state, .. } => format!(in alloc; "{state} ")?,
         Content::NextStep { at, .. } => format!(in alloc; "next {} ", at.ns())?,
+        Content::Publish { head, .. } => format!(in alloc;
+            "publish {} {} ",
+            head.stamp.ns(),
+            head.mark
+        )?,
         Content::Leave => format!(in alloc; "Leave ")?,
         _ => format!(in alloc; "other ")?,
     })

@@ -2,5 +2,7 @@ pub mod OutsideLaws
 pub mod OfflineLaws
 pub mod SimulateLaws
 pub mod PieceLaws
+pub mod GenerateLaws
+pub mod GenerateWords
 pub mod CallLaws
 pub mod TopLaws

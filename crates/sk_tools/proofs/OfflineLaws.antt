@@ -44,7 +44,7 @@ no_rise a b none rose = omega (arith, none.same, none.counts, rose.0, rose.1)
 
 -- ## By the number that is answered
 
-by_counts : (ended : CheckStatus) (files : FilesSeen) (out : SinkSeen) → CountsReads ended files.faults files.faults_now → CountsWrites ended out.faults out.faults_now
+pub by_counts : (ended : CheckStatus) (files : FilesSeen) (out : SinkSeen) → CountsReads ended files.faults files.faults_now → CountsWrites ended out.faults out.faults_now
     → IsCounted files out (status_number (exit_of ended))
 by_counts Done files out reads writes = record { read_fault = λ e. absurd (omega arith); reads_steady = λ _. reads; write_fault = λ e. absurd (omega arith); writes_steady = λ _. writes }
 by_counts BadFile files out reads writes = record { read_fault = λ e. absurd (omega arith); reads_steady = λ _. reads; write_fault = λ e. absurd (omega arith); writes_steady = λ _. writes }
@@ -59,7 +59,7 @@ by_found ReadFault found may = record { done = λ e. absurd (omega arith); refus
 by_found WriteFault found may = record { done = λ e. absurd (omega arith); refused = λ e. absurd (omega arith); written = λ _. may }
 by_found OutOfMemory found may = record { done = λ e. absurd (omega arith); refused = λ e. absurd (omega arith); written = λ e. absurd (omega arith) }
 
-by_text : (ended : CheckStatus) (text before now : List ℕ) → Leaves ended text before now → IsOutput text (status_number (exit_of ended)) before now
+pub by_text : (ended : CheckStatus) (text before now : List ℕ) → Leaves ended text before now → IsOutput text (status_number (exit_of ended)) before now
 by_text Done text before now leaves = record { whole = λ _. leaves; part = λ e. absurd (omega arith); nothing = λ n _. absurd (n refl) }
 by_text BadFile text before now leaves = record { whole = λ e. absurd (omega arith); part = λ e. absurd (omega arith); nothing = λ _ _. leaves }
 by_text ReadFault text before now leaves = record { whole = λ e. absurd (omega arith); part = λ e. absurd (omega arith); nothing = λ _ _. leaves }
@@ -74,7 +74,7 @@ known WriteFault = refl
 known OutOfMemory = refl
 
 -- memory didn't run out, where another number is answered
-ran : (ended : CheckStatus) → status_number (exit_of ended) ≢ 5 → ended ≢ OutOfMemory
+pub ran : (ended : CheckStatus) → status_number (exit_of ended) ≢ 5 → ended ≢ OutOfMemory
 ran ended n e = n (ap (λ x. status_number (exit_of x)) e)
 
 -- what is said by the number is what is said by the end

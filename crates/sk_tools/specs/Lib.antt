@@ -5,6 +5,7 @@ pub mod Outside
 pub mod Top
 pub mod Found
 pub mod Check
+pub mod Generate
 pub mod Jobs
 pub mod Seen
 pub mod PipeCall

@@ -2,14 +2,18 @@
 use Rattle.std.specs.Prelude.{◌≡◌, ◌≢◌, ◌⊎◌, ◌++◌, ℕ, true, Some, None, List}
 use Rattle.sk_base.specs.Talk.{Rose}
 use Rattle.sk_config.specs.Reading.{reading}
+use Rattle.sk_script.specs.Generated.{generated}
+use Rattle.sk_script_text.specs.Written.{canonical}
 use Rattle.sk_tools.specs.Usage.{IsUsage}
 use Rattle.sk_tools.specs.Outside.{HasNoFault}
 use Rattle.sk_tools.specs.Found.{found_in, IsJudged, IsOutput}
 use Rattle.sk_tools.specs.Check.{IsCheckStatus, checked_text, said_by}
-use Rattle.sk_tools.specs.Jobs.{Job, Check, Simulate, offline_job}
+use Rattle.sk_tools.specs.Generate.{IsGenerateStatus, written_by}
+use Rattle.sk_tools.specs.Jobs.{Job, Check, Simulate, Generate, offline_job}
 use Rattle.sk_tools.specs.Simulate.{IsSimulateStatus, LeavesBy}
 use Rattle.sk_tools.specs.Runnable.{runnable}
 use Rattle.sk_tools.specs.Seen.{FilesSeen, SinkSeen}
+use Rattle.sk_tools.specs.Words.{ScenarioPlan}
 
 -- the count of the files' faults rose with status 3, that of the output's with status 4, and with no other
 pub record IsCounted (files : FilesSeen) (out : SinkSeen) (answer : ℕ) : Type 0 where
@@ -37,10 +41,19 @@ pub record IsSimulateCall (file : List ℕ) (files : FilesSeen) (out err : SinkS
   -- what the file holds is judged by the status: a scenario that can be run, or not; and what is left of the run of one
   pub leaves : files.tells ≡ true → LeavesBy answer file (found_in runnable (files.content file)) out err
 
+-- `generate NUMBER PARTICIPANTS STEPS`, by the files, the output, standard error and the answer: the text of the scenario that is
+-- made so, and nothing of files
+pub record IsGenerateCall (plan : ScenarioPlan) (files : FilesSeen) (out err : SinkSeen) (answer : ℕ) : Type 0 where
+  pub known : IsGenerateStatus answer
+  pub counted : IsCounted files out answer
+  pub output : out.tells ≡ true → IsOutput (canonical (generated plan.number plan.participants plan.steps)) answer out.written out.written_now
+  pub said : err.tells ≡ true → HasNoFault err.faults err.faults_now → answer ≢ 5 → err.written_now ≡ err.written ++ written_by answer
+
 -- what is done of a job: a record for each
 abbrev pub Does : Job → FilesSeen → SinkSeen → SinkSeen → ℕ → Type 0
 Does (Check file) files out err answer = IsCheckCall file files out err answer
 Does (Simulate file) files out err answer = IsSimulateCall file files out err answer
+Does (Generate plan) files out err answer = IsGenerateCall plan files out err answer
 
 -- words without a reading: nothing is read, and nothing is written
 pub record IsRefusedCall (files : FilesSeen) (out : SinkSeen) (answer : ℕ) : Type 0 where

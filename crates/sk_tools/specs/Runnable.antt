@@ -1,4 +1,4 @@
--- Which scenarios can be run: so far those whose participants have neither services nor scripts.
+-- Which scenarios can be run: so far those whose participants do nothing of their own.
 use Rattle.std.specs.Prelude.{ℕ, Bool, ◌&&◌, ◌==◌, List, [], length, Result, Ok, Err, codes}
 use Rattle.std.specs.List.{list_all}
 use Rattle.sk_config.specs.Paths.{key_at}
@@ -8,9 +8,9 @@ use Rattle.sk_rules.specs.declared.fault.ScenarioFault.{ScenarioFault}
 use Rattle.sk_script.specs.Reading.{reading}
 use Rattle.sk_script.specs.Scenarios.{PartValue, ScenarioReadValue}
 
--- it has no services and does nothing of its own
+-- it does nothing of its own: it has no action to carry out when it is ready, and no rule
 unfoldable pub is_plain : PartValue → Bool
-is_plain part = length part.services == 0 && (length part.ready == 0 && length part.script == 0)
+is_plain part = length part.ready == 0 && length part.script == 0
 
 -- the scenario of the bytes of a file, if it can be run
 unfoldable pub runnable : List ℕ → Result ScenarioReadValue ScenarioFault

@@ -25,6 +25,10 @@ check_app = with_rule (new_app (codes "check")) (needed (codes "FILE"))
 unfoldable pub simulate_app : App
 simulate_app = with_rule (new_app (codes "simulate")) (needed (codes "FILE"))
 
+unfoldable pub generate_app : App
+generate_app = with_rule (with_rule (with_rule (new_app (codes "generate"))
+    (needed (codes "NUMBER"))) (needed (codes "PARTICIPANTS"))) (needed (codes "STEPS"))
+
 -- the command takes the words
 unfoldable pub takes_words : App → List Text → Bool
 takes_words app words = length (fault_of app words) == 0
@@ -81,3 +85,27 @@ file_to_check words = file_in (codes "check") check_app words
 
 abbrev pub file_to_simulate : List Text → Option Text
 file_to_simulate words = file_in (codes "simulate") simulate_app words
+
+-- ## `generate NUMBER PARTICIPANTS STEPS`
+
+-- what a scenario is made of
+pub record ScenarioPlan : Type 0 where
+  pub number : ℕ
+  pub participants : ℕ
+  pub steps : ℕ
+
+-- NUMBER is from 0 to 2^64 - 1, PARTICIPANTS from 2 to 32, STEPS from 1 to 2,000
+unfoldable pub scenario_from : Text → Text → Text → Option ScenarioPlan
+scenario_from number participants steps =
+    if is_number 0 18446744073709551615 number && is_number 2 32 participants && is_number 1 2000 steps
+    then Some (record { number = digits_value 10 number; participants = digits_value 10 participants; steps = digits_value 10 steps })
+    else None
+
+abbrev pub scenario_in : List Row → Option ScenarioPlan
+scenario_in rows =
+    option_and_then (λ number. option_and_then (λ participants. option_and_then (λ steps. scenario_from number participants steps)
+    (value_of rows (codes "STEPS"))) (value_of rows (codes "PARTICIPANTS"))) (value_of rows (codes "NUMBER"))
+
+abbrev pub scenario_of : List Text → Option ScenarioPlan
+scenario_of words =
+    if is_command (codes "generate") words && takes_words generate_app words then scenario_in (rows_read generate_app words) else None

@@ -5,7 +5,7 @@
 //! place of the link's talk, what was given for the bytes taken so far, and for each status the
 //! cause that forces it. [`silkit_offline`] has the commands on files: what they answer, write and
 //! say follows from the words and from what the files hold; of `simulate`, that the journals which it
-//! writes are those of a safe world. Clauses on what was taken, given,
+//! writes are those of a safe world, and of `generate`, which scenario it writes. Clauses on what was taken, given,
 //! written or read hold where the object tells it: those in memory do, the real ones don't. What
 //! else must be believed, the README says.
 //!
@@ -23,6 +23,7 @@
 #![tactic(auto)]
 
 mod check;
+mod generate;
 mod host;
 pub mod laws;
 mod offline;

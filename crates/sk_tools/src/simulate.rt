@@ -30,7 +30,8 @@ pub use status::SimulateStatus;
 use std::alloc::Global;
 
 /// `simulate FILE`: reads the scenario in the file, runs all its participants in rounds, and writes
-/// their journals. Participants with services or scripts can't be run yet: they are refused.
+/// their journals. Participants with something of their own to do, a ready list or a script, can't be run
+/// yet: they are refused.
 pub fn simulate<F: Files, O: Sink, E: Sink>(
     alloc: Global,
     file: &str,
@@ -112,12 +113,12 @@ fn are_plain(parts: &[Part]) -> bool
     parts.iter().all(|part| is_plain(part))
 }
 
-/// Whether the participant has neither services nor anything to do of its own.
+/// Whether the participant has nothing to do of its own.
 #[tactic(auto, unfolding(crate::specs::Runnable::is_plain))]
 fn is_plain(part: &Part) -> bool
     ensures { result ≡ is_plain part.now }
 {
-    part.services().is_empty() && part.ready().is_empty() && part.script().is_empty()
+    part.ready().is_empty() && part.script().is_empty()
 }
 
 /// Says what is wrong with a scenario.

@@ -10,6 +10,7 @@ ghost use Rattle.sk_tools.specs.declared.words.Refused.TheVariants.{WantOfMemory
 
 pub mod check;
 mod file;
+pub mod generate;
 pub mod pipe;
 pub mod simulate;
 

@@ -1,4 +1,4 @@
-use Rattle.sk_law.proofs.Putting.{puts_bounded}
+use Rattle.sk_law.proofs.Resting.{puts_bounded}
 use Rattle.sk_law.proofs.laws.what_is_put_is_bounded.Goals as goal
 
 pub returns : goal.returns

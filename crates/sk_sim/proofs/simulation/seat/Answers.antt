@@ -17,6 +17,7 @@ new-requires c =
       step = f.step;
       duration = f.duration;
       services = f.services;
+      numbered = f.numbered;
       blocking = f.blocking;
       ready = f.ready;
       number = f.number;

@@ -12,4 +12,4 @@ returns-in_default-clause-ok g c =
 pub returns-clause-ok : goal.returns-clause-ok
 returns-clause-ok g c =
     let e = c.in_ok-take.ensures in
-    takes_read c.args.wired.now c.take.new.self c.pop.new.self _ _ c.args.peer c.in-Some.message c.requires.tied c.requires.peer c.pop.ensures.only c.in-Some.ensures.some e.ok e.hears e.gets c.journal.ensures.sound
+    takes_read c.what_is_put_is_bounded.ensures c.args.wired.now c.take.new.self c.pop.new.self _ _ c.args.peer c.in-Some.message c.requires.tied c.requires.peer c.pop.ensures.only c.in-Some.ensures.some e.ok e.hears e.gets c.journal.ensures.sound

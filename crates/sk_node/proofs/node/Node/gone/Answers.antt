@@ -18,15 +18,14 @@ invariant_of-self g c =
     let k : Kept = c.self.inside.journal in
     let new : Kept = c.lose.new.journal in
     let b : Bool = c.self.inside.poisoned in
-    sound_in c.limits_hold.ensures c.what_is_put_is_bounded.ensures k new b c.if-self.false (λ none. c.self.invariant.bounded none c.if-self.false) (went_whole (loses c.args.peer c.args.reason (open_in c.args.self.now k b c.args.peer c.self.view_is c.requires.is_open) c.requires.reason) c.in-Ok.ensures.ok) c.sound.ensures.all c.sound.ensures.within
+    sound_in c.limits_hold.ensures k new b c.if-self.false (went_whole (loses c.args.peer c.args.reason (open_in c.args.self.now k b c.args.peer c.self.view_is c.requires.is_open) c.requires.reason) c.in-Ok.ensures.ok) c.sound.ensures.all c.sound.ensures.within
 
 pub invariant_of-self-in-Err : goal.invariant_of-self-in-Err
 invariant_of-self-in-Err g c =
     let k : Kept = c.self.inside.journal in
     let new : Kept = c.lose.new.journal in
     let b : Bool = c.self.inside.poisoned in
-    sound_stopped c.what_is_put_is_bounded.ensures k new (part_cut (loses c.args.peer c.args.reason (open_in c.args.self.now k b c.args.peer c.self.view_is c.requires.is_open) c.requires.reason) c.in-Err.ensures.err)
-    (λ none. c.self.invariant.bounded none c.if-self.false) c.sound-in-Err.ensures.all c.sound-in-Err.ensures.within
+    sound_stopped new c.sound-in-Err.ensures.all c.sound-in-Err.ensures.within
 
 pub returns-in-Ok-clause-ok : goal.returns-in-Ok-clause-ok
 returns-in-Ok-clause-ok g c =

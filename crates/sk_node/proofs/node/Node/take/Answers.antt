@@ -1,7 +1,4 @@
-use Rattle.std.specs.Prelude.{◌≡◌, Bool}
-use Rattle.std.proofs.Common.{ap, sym, subst}
-use Rattle.sk_law.specs.Past.{Past}
-use Rattle.sk_law.specs.Kept.{Kept}
+use Rattle.std.proofs.Common.{subst}
 use Rattle.sk_node.specs.Known.{Known}
 use Rattle.sk_node.specs.Peers.{Hears}
 use Rattle.sk_node.specs.Takes.{Takes, TakesCut}
@@ -14,12 +11,12 @@ take-requires g c = record { is_open = open_in c.args.self.now c.self.inside.jou
 
 pub invariant_of-self : goal.invariant_of-self
 invariant_of-self g c =
-    sound_in c.limits_hold.ensures c.what_is_put_is_bounded.ensures c.self.inside.journal c.take.new.journal c.self.inside.poisoned c.if-self.false (λ none. c.self.invariant.bounded none c.if-self.false) c.in-Ok.ensures.ok.went
+    sound_in c.limits_hold.ensures c.self.inside.journal c.take.new.journal c.self.inside.poisoned c.if-self.false c.in-Ok.ensures.ok.went
     c.sound.ensures.all c.sound.ensures.within
 
 pub invariant_of-self-in-Err : goal.invariant_of-self-in-Err
 invariant_of-self-in-Err g c =
-    sound_stopped c.what_is_put_is_bounded.ensures c.self.inside.journal c.take.new.journal c.in-Err.ensures.err.went (λ none. c.self.invariant.bounded none c.if-self.false) c.sound-in-Err.ensures.all c.sound-in-Err.ensures.within
+    sound_stopped c.take.new.journal c.sound-in-Err.ensures.all c.sound-in-Err.ensures.within
 
 pub returns-in-Ok-clause-ok : goal.returns-in-Ok-clause-ok
 returns-in-Ok-clause-ok g c =

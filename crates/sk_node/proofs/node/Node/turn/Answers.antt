@@ -5,12 +5,11 @@ use Rattle.sk_node.proofs.node.Node.turn.Goals as goal
 
 pub invariant_of-self : goal.invariant_of-self
 invariant_of-self g c =
-    sound_turned c.limits_hold.ensures c.what_is_put_is_bounded.ensures c.in-Ok.turned c.self.inside.journal c.turn.new.journal c.self.inside.poisoned (g.A.App.lists c.args.app.now) (g.A.App.lists c.turn.new.app) c.if-self.false c.self.invariant c.in-Ok.ensures.turned c.sound.ensures.all c.sound.ensures.within
+    sound_turned c.limits_hold.ensures c.in-Ok.turned c.self.inside.journal c.turn.new.journal c.self.inside.poisoned (g.A.App.lists c.args.app.now) (g.A.App.lists c.turn.new.app) c.if-self.false c.self.invariant c.in-Ok.ensures.turned c.sound.ensures.all c.sound.ensures.within
 
 pub invariant_of-self-in-Err : goal.invariant_of-self-in-Err
 invariant_of-self-in-Err g c =
-    sound_stopped c.what_is_put_is_bounded.ensures c.self.inside.journal c.turn.new.journal c.in-Err.ensures.err.went (λ none. c.self.invariant.bounded none c.if-self.false)
-    c.sound-in-Err.ensures.all c.sound-in-Err.ensures.within
+    sound_stopped c.turn.new.journal c.sound-in-Err.ensures.all c.sound-in-Err.ensures.within
 
 pub returns-in-Ok-clause-turned : goal.returns-in-Ok-clause-turned
 returns-in-Ok-clause-turned g c =

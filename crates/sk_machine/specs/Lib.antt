@@ -1,0 +1,5 @@
+pub mod Causes
+pub mod Playing
+pub mod Index
+pub mod Sound
+pub mod Machines

@@ -1,0 +1,14 @@
+pub mod WriteLaws
+pub mod NewlineLaws
+pub mod NameLaws
+pub mod FieldLaws
+pub mod ValueLaws
+pub mod ListLaws
+pub mod ActionLaws
+pub mod ScopeLaws
+pub mod RuleLaws
+pub mod VarLaws
+pub mod ServiceLaws
+pub mod PartLaws
+pub mod ScenarioLaws
+pub mod PlainLaws
