@@ -5,10 +5,10 @@ of faulty ones, one case for each key and rule, and on files and outputs of the 
 usage: simulations.py [COUNT [SEED]]
        simulations.py --selftest
 
-The checker below is written from docs/FORMATS.md and docs/DEFINITIONS.md alone. It says of a journal whether each entry
-may stand where it does; in which order entries of several causes come, the documents leave open. With a COUNT below 300
-the runs of 500,000 entries are left out. With --selftest one run's text is changed, line by line, and the checker has to
-refuse each change. SILKIT in the environment names another program to run.
+The participants of these scenarios have services, and do nothing of their own: those with scripts are run by
+scripts/scripted_runs.py. What a journal may say is in scripts/journal_rules.py, which is written from the documents alone.
+With a COUNT below 300 the runs of 500,000 entries are left out. With --selftest one run's text is changed, line by line,
+and the checker has to refuse each change. SILKIT in the environment names another program to run.
 """
 import json
 import os
@@ -16,349 +16,15 @@ import random
 import subprocess
 import sys
 import tempfile
-from collections import deque
+
+# What is imported here leaves no files beside the scripts.
+sys.dont_write_bytecode = True
+
+import script_rules
+from journal_rules import SERVICES, Wrong, check_run
 
 TOP = os.path.dirname(os.path.dirname(os.path.abspath(__file__)))
 PROGRAM = os.environ.get("SILKIT") or os.path.join(TOP, "crates", "silkit", "out", "silkit")
-
-CHAIN = ["ServicesCreated", "CommunicationInitializing", "CommunicationInitialized", "ReadyToRun", "Running"]
-CHAIN += ["Stopping", "Stopped", "ShuttingDown", "Shutdown"]
-NUMBERS = dict(zip(CHAIN, [10, 20, 30, 40, 50, 70, 80, 100, 110]), Paused=60, Error=90, Aborting=120)
-STATES = {number: state for state, number in NUMBERS.items()}
-# The states that have an edge to Error, and to Aborting.
-TO_ERROR = CHAIN[:7] + ["Paused"]
-TO_ABORTING = TO_ERROR + ["Error"]
-KINDS = {"Hello": 1, "Leave": 2, "NextStep": 3, "ServiceAdd": 4, "ServicesEnd": 5, "Status": 6, "Abort": 8}
-SERVICES = ["can", "ethernet", "lin", "publisher", "subscriber", "server", "client"]
-MOST_ENTRIES = 500000
-
-
-class Wrong(Exception):
-    pass
-
-
-def need(holds, why):
-    if not holds:
-        raise Wrong(why)
-
-
-# ---- messages
-
-
-def number(value, width):
-    return value.to_bytes(width, "little")
-
-
-def message(kind, fields=b""):
-    """Its kind and its spelling, as they stand in a line."""
-    body = bytes([1, KINDS[kind]]) + fields
-    return f"{kind} {(number(len(body), 4) + body).hex()}"
-
-
-def hello(name, role):
-    return message("Hello", bytes([len(name)]) + name + bytes([role, 0]))
-
-
-def next_step(at, size):
-    return message("NextStep", number(at, 8) + number(size, 8))
-
-
-def status(state, until=0):
-    return message("Status", bytes([NUMBERS[state]]) + number(until, 8))
-
-
-def short(text):
-    """A name or a text: its length and its bytes."""
-    return bytes([len(text.encode())]) + text.encode()
-
-
-def service_add(own, service):
-    """What tells of this service of a scenario, which is its owner's of this number. A history isn't told."""
-    kind = service["kind"]
-    topic = service.get("topic", service.get("function", service.get("network", service["name"])))
-    fields = number(own, 4) + bytes([SERVICES.index(kind) + 1]) + short(service["name"]) + short(topic) + short(service.get("media", ""))
-    labels = service.get("labels", [])
-    fields += bytes([len(labels)])
-    for label in labels:
-        fields += short(label["key"]) + short(label["value"]) + bytes([label["kind"] == "mandatory"])
-    return message("ServiceAdd", fields)
-
-
-def read_message(kind, text):
-    """The values of the fields. Written again they have to be the same text."""
-    need(kind in KINDS, "a kind that none of these scenarios has")
-    data = bytes.fromhex(text)[6:]
-    if kind == "Hello":
-        values = (data[1 : 1 + data[0]], data[1 + data[0]])
-        again = hello(*values)
-    elif kind == "NextStep":
-        values = (int.from_bytes(data[:8], "little"), int.from_bytes(data[8:], "little"))
-        need(values[0] <= 2**62 and 1 <= values[1] <= 2**60, "a time or a duration out of range")
-        again = next_step(*values)
-    elif kind == "Status":
-        need(data[0] in STATES, "a number that no state has")
-        values = (STATES[data[0]], int.from_bytes(data[1:], "little"))
-        again = status(*values)
-    elif kind == "ServiceAdd":
-        values, again = (), f"{kind} {text}"  # The one that takes it compares it with the service in the scenario.
-    else:
-        values = ()
-        again = message(kind)
-    need(f"{kind} {text}" == again, "not the spelling of such a message")
-    return values
-
-
-# ---- states
-
-
-def has_reached(state, other):
-    state = "Running" if state == "Paused" else state
-    return state in CHAIN and CHAIN.index(state) >= CHAIN.index(other)
-
-
-def system_state(states):
-    """The first rule that fits, of the last known states of the required."""
-    if not states or "Invalid" in states:
-        return "Invalid"
-    for one in ("Aborting", "Error"):
-        if one in states:
-            return one
-    if any(has_reached(state, "Stopping") for state in states):
-        for one in ("Shutdown", "ShuttingDown", "Stopped"):
-            if all(has_reached(state, one) for state in states):
-                return one
-        return "Stopping"
-    if all(state in ("Running", "Paused") for state in states) and "Paused" in states:
-        return "Paused"
-    return min(("Running" if state == "Paused" else state for state in states), key=CHAIN.index)
-
-
-# ---- journals
-
-
-class Peer:
-    """What is known of a peer, by what was got of it."""
-
-    def __init__(self, name, services):
-        self.name, self.role, self.told_all, self.announced, self.state, self.left = name, None, False, None, "Invalid", False
-        # The services that it has still to tell.
-        self.services = deque(services)
-
-    def is_synchronised(self):
-        return self.role is not None and self.role & 2
-
-    def is_coordinated(self):
-        return self.role is not None and self.role & 1
-
-
-class Journal:
-    """One participant's journal, entry by entry: what it says so far, and what has to stand next."""
-
-    def __init__(self, scenario, own):
-        self.name, self.coordinated, self.size, services = scenario["parts"][own]
-        self.required = scenario["required"]
-        self.peers = {k: Peer(part[0], part[3]) for k, part in enumerate(scenario["parts"]) if k != own}
-        self.limit = scenario["duration"]
-        self.state = self.system = "Invalid"
-        self.begun = self.count = 0
-        self.has_run = False
-        self.got = {k: [] for k in self.peers}
-        self.put = {k: [] for k in self.peers}
-        role = self.coordinated + 2 * (self.size is not None)
-        # What has to stand next, in this order.
-        self.owed = deque()
-        for k in self.peers:
-            self.owed += [f"put {k} {text}" for text in [hello(self.name, role), *services, message("ServicesEnd")]]
-        self.enter("ServicesCreated")
-
-    def tell(self, text):
-        self.owed += [f"put {k} {text}" for k in self.peers]
-
-    def judge_system(self):
-        known = {peer.name: peer.state for peer in self.peers.values()}
-        known[self.name] = self.state
-        now = system_state([known[name] for name in self.required])
-        if now != self.system:
-            self.system = now
-            self.owed.append(f"system {now}")
-
-    def enter(self, state):
-        """State, its Status to each peer, System, and what stands behind these."""
-        self.state = state
-        self.owed.append(f"state {state}")
-        self.tell(status(state))
-        self.judge_system()
-        if state == "Running" and not self.has_run:
-            self.has_run = True
-            if self.size is not None:
-                self.tell(next_step(0, self.size))
-        if state == "Shutdown":
-            self.tell(message("Leave"))
-
-    def all_reached(self, state):
-        """All required have; an autonomous one doesn't wait for it."""
-        if not self.coordinated:
-            return True
-        known = {peer.name: peer.state for peer in self.peers.values()}
-        known[self.name] = self.state
-        return all(has_reached(known[name], state) for name in self.required)
-
-    def may_leave(self):
-        """Whether the present state is left for the next one in the chain."""
-        peers = self.peers.values()
-        if self.state == "ServicesCreated":
-            return all(peer.role is not None for peer in peers) and self.all_reached("ServicesCreated")
-        if self.state == "CommunicationInitializing":
-            return all(peer.told_all for peer in peers)
-        if self.state == "Running" and self.size is not None:
-            return self.begun * self.size >= self.limit
-        if self.state == "Running":
-            return all(peer.left or has_reached(peer.state, "Stopping") for peer in peers if peer.is_synchronised())
-        if self.state in ("CommunicationInitialized", "ReadyToRun", "Stopped"):
-            return self.all_reached(self.state)
-        return self.state in ("Stopping", "ShuttingDown")
-
-    def entry(self, line):
-        self.count += 1
-        words = line.split(" ")
-        if words[0] in ("got", "put"):
-            need(len(words) == 4 and words[1].isdigit() and int(words[1]) in self.peers, "no message of or to a peer")
-            getattr(self, words[0])[int(words[1])].append(line.split(" ", 2)[2])
-        if self.owed:
-            wanted = self.owed.popleft()
-            need(line == wanted, f"wanted {wanted}")
-            return
-        if words[0] == "got":
-            self.take(int(words[1]), words[2], words[3])
-        elif words[0] == "begin":
-            self.begin(line)
-        elif words[0] == "ask":
-            # Nobody has a script, so one in Error alone asks, and that is Abort.
-            need(line == "ask Abort accepted" and self.state == "Error", "nobody asks for this")
-            self.enter("Aborting")
-            self.tell(message("Abort"))
-        else:
-            self.move(line)
-        # Behind whatever has happened the limit is judged.
-        if self.count + len(self.owed) >= MOST_ENTRIES and self.state in TO_ERROR:
-            self.owed.append("fault 3")
-            self.enter("Error")
-
-    def move(self, line):
-        """By itself a participant goes on in the chain, or from Aborting to Shutdown."""
-        if self.state == "Aborting":
-            following = "Shutdown"
-        else:
-            need(self.state in CHAIN[:-1], f"nothing of this kind follows in {self.state}")
-            following = CHAIN[CHAIN.index(self.state) + 1]
-            need(line != f"state {following}" or self.may_leave(), f"{self.state} isn't left yet")
-        need(line == f"state {following}", "nothing leads to this")
-        self.enter(following)
-        self.owed.popleft()
-
-    def begin(self, line):
-        at = self.begun * (self.size or 0)
-        need(self.size is not None and self.state == "Running", "no step begins here")
-        need(line == f"begin {self.begun + 1} {at}", f"the next step is {self.begun + 1}, at {at}")
-        need(at < self.limit, "a step that isn't below the limit")
-        for k, peer in self.peers.items():
-            need(peer.role is not None, f"Hello of {k} isn't there")
-            held = peer.is_synchronised() and not peer.left and (peer.announced is None or peer.announced < at)
-            need(not held, f"{k} has announced {peer.announced}")
-        self.begun += 1
-        self.owed.append(f"end {self.begun}")
-        self.tell(next_step(self.begun * self.size, self.size))
-
-    def take(self, k, kind, text):
-        """A message of a peer, which has to come in the order of a link."""
-        peer, values = self.peers[k], read_message(kind, text)
-        need(not peer.left, "behind Leave")
-        if kind == "Hello":
-            need(peer.role is None and values[0] == peer.name and values[1] <= 3, "not the one Hello of this peer")
-            peer.role = values[1]
-            return
-        need(peer.role is not None, "before Hello")
-        need(peer.told_all == (kind not in ("ServiceAdd", "ServicesEnd")), "before ServicesEnd, or behind it")
-        if kind == "ServiceAdd":
-            need(peer.services and peer.services.popleft() == f"{kind} {text}", "not the next service of this peer")
-        elif kind == "ServicesEnd":
-            need(not peer.services, "not all services were told")
-            peer.told_all = True
-        elif kind == "NextStep":
-            need(peer.is_synchronised() and (peer.announced is None or peer.announced < values[0]), "an announcement out of order")
-            early = self.state in CHAIN[:3] and self.coordinated and self.name in self.required
-            need(not (early and peer.is_coordinated()), "announced before the own one was ready")
-            peer.announced = values[0]
-        elif kind == "Status":
-            peer.state = values[0]
-            if values[1] and self.coordinated and peer.is_coordinated():
-                self.limit = min(self.limit, values[1])
-            self.judge_system()
-        elif kind == "Leave":
-            need(peer.state == "Shutdown", "Leave before Shutdown")
-            peer.left = True
-        elif kind == "Abort" and self.state in TO_ABORTING:
-            self.enter("Aborting")
-
-    def close(self):
-        need(not self.owed, f"the journal ends before {self.owed and self.owed[0]}")
-        need(self.state == "Shutdown", f"the journal ends in {self.state}")
-        for k, peer in self.peers.items():
-            need(peer.left, f"{k} hasn't left")
-
-
-def read_journals(scenario, text):
-    """The journals in the text of a run, each line judged where it stands."""
-    need(text.endswith("\n"), "no line feed at the end")
-    lines = text[:-1].split("\n")
-    names = [part[0].decode() for part in scenario["parts"]]
-    head = [f"world {len(names)}"] + [f"participant {k} {name}" for k, name in enumerate(names)]
-    need(lines[: len(head)] == head, f"wanted {head}")
-    at, journals = len(head), []
-    for own in range(len(names)):
-        title = lines[at].split(" ") if at < len(lines) else []
-        need(title[:2] == ["journal", str(own)] and len(title) == 3 and title[2].isdigit(), f"line {at + 1}: wanted journal {own}")
-        end = at + 1 + int(title[2])
-        need(end <= len(lines), f"line {at + 1}: fewer entries")
-        journal = Journal(scenario, own)
-        for place in range(at + 1, end):
-            try:
-                journal.entry(lines[place])
-            except (Wrong, ValueError, IndexError, KeyError, OverflowError) as why:
-                raise Wrong(f"line {place + 1}: {lines[place]}: {why}") from None
-        try:
-            journal.close()
-        except Wrong as why:
-            raise Wrong(f"journal {own}: {why}") from None
-        at = end
-        journals.append(journal)
-    need(at == len(lines), f"line {at + 1}: behind the last journal")
-    return journals
-
-
-def check_run(scenario, text, said, ended):
-    """The number of entries of a run, where all is as it has to be."""
-    if ended == 12:
-        need((text, said) == ("", "silkit: stalled\n"), "stalled, and more is written")
-        raise Wrong("stalled, which no scenario of these keys is known to do")
-    need(ended in (0, 6), f"status {ended}")
-    journals = read_journals(scenario, text)
-    for p, sender in enumerate(journals):
-        for q, receiver in enumerate(journals):
-            need(p == q or sender.put[q] == receiver.got[p], f"{q} didn't get what {p} put to it")
-    aborted = [k for k, journal in enumerate(journals) if "\nstate Aborting\n" in text_of(text, k)]
-    line = f"silkit: ended by abort: {scenario['parts'][aborted[0]][0].decode()}\n" if aborted else ""
-    need((ended, said) == (6 if aborted else 0, line), f"status {ended}, {said!r}, where {aborted} were aborted")
-    for journal in journals if not aborted else []:
-        wanted = -(-scenario["duration"] // journal.size) if journal.size else 0
-        need(journal.begun == wanted, f"{journal.begun} steps of {journal.name.decode()}, wanted {wanted}")
-    return sum(journal.count for journal in journals)
-
-
-def text_of(text, own):
-    """The lines of one journal."""
-    return text.split(f"\njournal {own} ", 1)[1].split("\njournal ", 1)[0] + "\n"
-
 
 # ---- scenarios
 
@@ -390,9 +56,9 @@ def random_services(rng, most):
 
 
 def random_scenario(rng, most=6):
-    """A scenario as JSON, and what it says: participants in the byte order of their names."""
+    """A scenario as JSON."""
     names = rng.sample(NAMES, rng.randint(1, most))
-    parts, entries = [], []
+    entries = []
     sizes = rng.choice([[1, 2, 3], [1000, 1500, 4000], [7, 7, 9, 40], [10**6], [2**60, 2**59, 2**60 - 1]])
     for name in names:
         coordinated = rng.random() < rng.choice([0.2, 0.8, 1])
@@ -405,19 +71,16 @@ def random_scenario(rng, most=6):
         services = random_services(rng, rng.choice([0, 3, 6]))
         if services or rng.random() < 0.1:
             entry["services"] = services
-        parts.append((name.encode(), coordinated, size, [service_add(own, service) for own, service in enumerate(services)]))
         entries.append(dict(rng.sample(list(entry.items()), len(entry))))
-    least = min([part[2] for part in parts if part[2]] or [1000])
+    least = min([entry["step"] for entry in entries if "step" in entry] or [1000])
     duration = max(0, min(least * rng.randint(0, 20) + rng.choice([0, 0, -1, 1]), 2**61))
-    parts.sort()
-    required = [part[0].decode() for part in parts if part[1]]
+    required = sorted(entry["name"] for entry in entries if entry.get("mode") != "autonomous")
     value = {"duration": duration, "participants": entries}
     if required and rng.random() < 0.5:
         required = rng.sample(required, rng.randint(1, len(required)))
         value["required"] = required
     value = dict(rng.sample(list(value.items()), len(value)))
-    text = json.dumps(value, ensure_ascii=rng.random() < 0.5, indent=rng.choice([None, 1]))
-    return text, {"duration": duration, "parts": parts, "required": [name.encode() for name in required]}
+    return json.dumps(value, ensure_ascii=rng.random() < 0.5, indent=rng.choice([None, 1]))
 
 
 LONG = "n" * 65
@@ -484,14 +147,14 @@ def faulty():
     yield '{"duration":1,"participants":[{"name":"A"}],"participants":[]}', "/participants", "out of range"
 
 
-def not_run_yet():
-    """What a participant would do of its own isn't run yet."""
+def idle_scripts():
+    """Scenarios as JSON whose scripts leave nothing in the journals: on variables alone, or for steps that never come."""
     for more in ({"vars": {"x": 1}, "ready": [{"set": "x", "to": 2}]}, {"script": [{"at": 1, "do": [{"stop": True}]}]}):
-        yield {"duration": 0, "participants": [{"name": "A", **more}]}, "/participants", "not allowed here"
+        yield json.dumps({"duration": 0, "participants": [{"name": "A", **more}]})
 
 
 def at_the_edge(few):
-    """Scenarios at a limit, as JSON and as what they say: 32 participants, the longest run, the most entries."""
+    """Scenarios at a limit: 32 participants, the longest run, the most entries."""
     crowd = [(f"n{i:02}", True, 1000) for i in range(32)]
     yield 1000, crowd
     yield 2**61, [("A", True, 2**60), ("B", False, None)]
@@ -503,21 +166,20 @@ def at_the_edge(few):
 
 
 def written(duration, parts):
+    """As JSON, of the name, the mode, the size and maybe the services of each participant."""
     entries = [{"name": part[0], "mode": "coordinated" if part[1] else "autonomous"} for part in parts]
     for entry, part in zip(entries, parts):
         entry.update({"step": part[2]} if part[2] else {})
         entry.update({"services": part[3]} if part[3:] else {})
-    told = [[service_add(*one) for one in enumerate(part[3] if part[3:] else [])] for part in parts]
-    coded = [(part[0].encode(), part[1], part[2], services) for part, services in zip(parts, told)]
-    required = [part[0] for part in coded if part[1]]
-    return json.dumps({"duration": duration, "participants": entries}), {"duration": duration, "parts": coded, "required": required}
+    return json.dumps({"duration": duration, "participants": entries})
 
 
 # ---- runs
 
 
-def run(path, output=subprocess.PIPE):
-    done = subprocess.run([PROGRAM, "simulate", path], stdout=output, stderr=subprocess.PIPE)
+def run(*words, output=subprocess.PIPE):
+    """What the program writes and says, and its status."""
+    done = subprocess.run([PROGRAM, *words], stdout=output, stderr=subprocess.PIPE)
     return (done.stdout or b"").decode(), done.stderr.decode(), done.returncode
 
 
@@ -530,10 +192,10 @@ def put_file(path, content):
 def refused(room):
     """How many faulty files there are, and the first whose end isn't as wanted, or None."""
     path, count = os.path.join(room, "faulty.json"), 0
-    for content, where, rule in (*faulty(), *not_run_yet()):
+    for content, where, rule in faulty():
         put_file(path, content)
         wanted = ("", f"silkit: {where}: {rule}\n", 1)
-        got = run(path)
+        got = run("simulate", path)
         if got != wanted:
             return count, f"scenario {content!r}\nwanted {wanted}\ngot    {got}"
         count += 1
@@ -544,7 +206,7 @@ def refused(room):
     rows += [(room, None, f"silkit: read fault: {room}\n", 3), (fine, "/dev/full", "silkit: write fault\n", 4)]
     for file, output, said, ended in rows:
         with open(output or os.devnull, "wb") as target:
-            got = run(file, target)
+            got = run("simulate", file, output=target)
         if got != ("", said, ended):
             return count, f"file {file}\nwanted {(said, ended)}\ngot    {got[1:]}"
     return count, None
@@ -573,10 +235,10 @@ def plants(text):
 def selftest(room):
     """Whether each wrong text is refused, of a run of two in which each step waits for the other's."""
     kinds = [{"kind": "lin", "name": "l"}, {"kind": "publisher", "name": "p", "topic": "t", "history": 1}]
-    text, scenario = written(4000, [("A", True, 1000, kinds), ("B", True, 1000)])
-    path = os.path.join(room, "two.json")
+    text = written(4000, [("A", True, 1000, kinds), ("B", True, 1000)])
+    path, scenario = os.path.join(room, "two.json"), script_rules.read(text.encode())
     put_file(path, text)
-    output, said, ended = run(path)
+    output, said, ended = run("simulate", path)
     check_run(scenario, output, said, ended)
     count = 0
     for what, wrong in plants(output):
@@ -598,13 +260,13 @@ def main():
         count = int(sys.argv[1]) if len(sys.argv) > 1 else 300
         rng = random.Random(int(sys.argv[2]) if len(sys.argv) > 2 else 1)
         cases = [random_scenario(rng) for _ in range(count)]
-        cases += [written(*case) for case in at_the_edge(count < 300)]
+        cases += [*idle_scripts(), *(written(*case) for case in at_the_edge(count < 300))]
         path, seen, entries = os.path.join(room, "a.json"), {}, 0
-        for turn, (text, scenario) in enumerate(cases):
+        for turn, text in enumerate(cases):
             put_file(path, text)
-            output, said, ended = run(path)
+            output, said, ended = run("simulate", path)
             try:
-                entries += check_run(scenario, output, said, ended)
+                entries += sum(journal.count for journal in check_run(script_rules.read(text.encode()), output, said, ended))
             except Wrong as why:
                 print(f"scenario {turn}: {text}\nstatus {ended}, {said!r}\n{why}")
                 return 1

@@ -7,6 +7,7 @@ pub mod Sees
 pub mod Work
 pub mod Rounds
 pub mod Runs
-pub mod Calling
+pub mod Played
+pub mod Playing
 pub mod Scripts
 pub mod Simulations

@@ -3,12 +3,14 @@ use Rattle.std.specs.Prelude.{ℕ, false, [], Some}
 use Rattle.sk_law.specs.declared.setup.Setup.{Setup}
 use Rattle.sk_law.specs.Script.{Script}
 use Rattle.sk_node.specs.Lists.{Lists}
-use Rattle.sk_script.specs.Scenarios.{PartValue, ScenarioValue, names_of}
+use Rattle.sk_machine.specs.Machines.{part_script, first_values}
+use Rattle.sk_machine.specs.Playing.{script_of}
+use Rattle.sk_script.specs.Scenarios.{PartValue, ScenarioValue, names_of, scope_of}
 use Rattle.sk_sim.specs.declared.scripted.Scripted.{Scripted}
 
--- the script that asks for nothing: no scenario has another one yet
-abbrev pub idle : Script
-idle = record { ready = []; step = λ before now. [] }
+-- the script of a participant, from the first values of its variables on
+abbrev pub script_by : PartValue → Script
+script_by part = script_of (part_script (scope_of part) part.ready part.script) (first_values part.vars)
 
 -- what an app is made of: its scenario, and which of the participants it is
 pub record Origin : Type 0 where

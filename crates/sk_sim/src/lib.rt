@@ -5,7 +5,8 @@
 //!
 //! A [`Seat`] is a participant with its app and its ends of the rings of a mesh. [`turn_rounds`] has
 //! each seat take one turn after another until all are finished or none has anything to do; it always
-//! comes to an end by itself, without a clock, a budget or a handle.
+//! comes to an end by itself, without a clock, a budget or a handle. Whoever makes the turns itself calls
+//! [`look_around`] before each [`Seat::turn`], as a round does.
 //!
 //! ```text
 //! let ends = mesh(alloc, 2, 64)?;                     // a ring for each ordered pair
@@ -35,6 +36,7 @@ mod taking;
 mod turns;
 mod wired;
 
+pub use looks::look_around;
 pub use rounds::turn_rounds;
 pub use scripted::Scripted;
 pub use seat::Seat;

@@ -39,7 +39,9 @@ fn look_at<A: App>(seats: &mut [Seat<A>], i: usize, k: usize)
     }
 }
 
-/// One seat looks at its rings beside every other seat.
+/// One seat, the `i`th, looks at its rings beside every other seat: of each message in them, and of each
+/// free slot, it knows then. Nothing else changes. A turn is told what its answer means for all of them
+/// only if the seat looked around just before. It costs a look at each ring.
 pub fn look_around<A: App>(seats: &mut [Seat<A>], i: usize)
     requires within { i < length seats.old }
     requires mesh { IsMesh (places (cards seats.old)) }

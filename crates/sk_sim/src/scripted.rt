@@ -1,48 +1,61 @@
 //! The app of a scenario's participant.
 
-ghost use Rattle.std.specs.Prelude.{◌≡◌, true, [], ◌∷◌, ◌++◌, OnOk, OnErr};
-ghost use Rattle.std.specs.List.{list_all};
-ghost use Rattle.sk_node.specs.Calls.{is_idle};
-ghost use Rattle.sk_sim.specs.Calling.{idle_call};
+ghost use Rattle.sk_sim.specs.Playing.{IsScripted};
 
+mod running;
+
+use crate::scripted::running::{Running, call_message, call_ready, call_step};
 use sk_base::{SimTime, WantOfMemory};
-use sk_law::{Actions, Call, Heard, Made, Notice, Outbox};
+use sk_law::{Heard, Made, Notice, Outbox};
 use sk_msg::{Message, State};
 use sk_node::App;
 use sk_script::Scenario;
 use std::alloc::Global;
 use std::snapshot::Snapshot;
 
-/// The app of a participant of a scenario. It keeps all that it is called with, and so far asks for
-/// nothing: scripts are to come.
+/// The app of a participant of a scenario: it carries out the participant's script. It keeps all that
+/// it is called with, and what it asked for.
+///
+/// The first call of the ready handler asks for what the ready list says, and each step for what the
+/// rules say of its time and of what it sees; a message asks for nothing. A step costs a look at each
+/// rule and at what it sees, whatever was heard before.
+///
+/// Where a call that may ask for actions met want of memory, the next ones answer so too.
 #[derive(Drop)]
 pub struct Scripted {
     alloc: Global,
     of: Snapshot<Scenario>,
     number: u32,
+    running: Running,
+    /// Whether memory was refused while a script was carried out.
+    failed: bool,
     heard: Vec<Heard>,
     made: Vec<Made>,
     notified: Vec<Notice>,
-    ghost idle: { list_all (λ one. is_idle one) made.items ≡ true },
+    ghost scripted: { ∥ IsScripted of.value number failed running made.items ∥₁ },
 }
 
 impl Scripted {
-    ghost use Rattle.std.specs.Prelude.{◌≡◌, [], ◌∷◌, ◌++◌, OnOk, OnErr};
+    ghost use Rattle.std.specs.Prelude.{◌≡◌, ◌<◌, [], ◌∷◌, ◌++◌, length, IfOk, OnOk, OnErr};
     ghost use Rattle.sk_sim.specs.Scripts.{lists_of, no_lists, origin_of};
 
     /// Of the participant of this number. It was called with nothing yet.
-    pub fn new(alloc: Global, scenario: &Scenario, number: u32) -> Scripted
-        ensures lists { lists_of result ≡ no_lists }
-        ensures origin { origin_of result ≡ record { scenario = scenario.now; number = number } }
+    pub fn new(alloc: Global, scenario: &Scenario, number: u32) -> Result<Scripted, WantOfMemory>
+        requires number { number < length scenario.now.participants }
+        ensures lists { IfOk result (λ app. lists_of app ≡ no_lists) }
+        ensures origin { IfOk result (λ app. origin_of app ≡ record { scenario = scenario.now; number = number }) }
     {
-        Scripted {
+        let part = &scenario.participants()[number as usize];
+        Ok(Scripted {
             alloc,
             of: Snapshot::of(scenario),
             number,
+            running: Running::new(alloc, part)?,
+            failed: false,
             heard: Vec::new(alloc),
             made: Vec::new(alloc),
             notified: Vec::new(alloc),
-        }
+        })
     }
 
     /// It was notified so.
@@ -65,12 +78,22 @@ impl App for Scripted {
 
     ghost origin = { λ app. origin_of app };
 
-    fn on_ready(&mut self, _out: &mut Outbox) -> Result<(), WantOfMemory> {
-        note_idle(self.alloc, &mut self.made, Call::Ready)
+    fn on_ready(&mut self, out: &mut Outbox) -> Result<(), WantOfMemory> {
+        if self.failed {
+            return Err(WantOfMemory);
+        }
+        let called = call_ready(&mut self.running, &mut self.made, out);
+        self.failed = called.is_err();
+        called
     }
 
-    fn on_step(&mut self, number: u64, at: SimTime, _out: &mut Outbox) -> Result<(), WantOfMemory> {
-        note_idle(self.alloc, &mut self.made, Call::Step { number, at })
+    fn on_step(&mut self, number: u64, at: SimTime, out: &mut Outbox) -> Result<(), WantOfMemory> {
+        if self.failed {
+            return Err(WantOfMemory);
+        }
+        let called = call_step(&mut self.running, &mut self.made, number, at, out);
+        self.failed = called.is_err();
+        called
     }
 
     fn on_message(
@@ -87,15 +110,15 @@ impl App for Scripted {
             service,
             message: message.copy(self.alloc)?,
         };
-        let message = message.copy(self.alloc)?;
         self.heard.reserve(1)?;
-        let call = Call::Message {
+        call_message(
+            &mut self.running,
+            &mut self.made,
             peer,
             place,
             service,
             message,
-        };
-        note_idle(self.alloc, &mut self.made, call)?;
+        )?;
         self.heard.push(heard).unwrap();
         Ok(())
     }
@@ -120,17 +143,4 @@ impl App for Scripted {
     fn on_abort(&mut self) -> Result<(), WantOfMemory> {
         self.note(Notice::Abort)
     }
-}
-
-/// An app was called so, and asked for nothing.
-fn note_idle(alloc: Global, made: &mut Vec<Made>, call: Call) -> Result<(), WantOfMemory>
-    ensures ok { OnOk result (made.new.items ≡ made.old.items ++ idle_call call ∷ []) }
-    ensures err { OnErr result (made.new.items ≡ made.old.items) }
-{
-    made.push(Made {
-        call,
-        actions: Actions::new(Vec::new(alloc)),
-        over: false,
-    })?;
-    Ok(())
 }

@@ -110,7 +110,7 @@ fn seat(alloc: Global, scenario: &Scenario, ends: Ends) -> Result<Seat<Scripted>
     let number = ends.number();
     let part = &scenario.participants()[number as usize];
     let setup = setup(alloc, scenario, number, part)?;
-    let app = Scripted::new(alloc, scenario, number);
+    let app = Scripted::new(alloc, scenario, number)?;
     Seat::new(alloc, setup, app, ends)
 }
 

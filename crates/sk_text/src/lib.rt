@@ -6,7 +6,8 @@
 //! more memory than a few lines. [`world_text`] makes all of it.
 //!
 //! A line is made in time linear in its length, and has fewer than 17,000 bytes. Participants and
-//! journals are numbered from 0.
+//! journals are numbered from 0. Worlds with equal texts are equal:
+//! [`laws::equal_texts_have_equal_worlds`].
 //!
 //! ```text
 //! let mut text = String::new(alloc);
@@ -18,6 +19,7 @@
 //! ```
 #![tactic(auto)]
 
+pub mod laws;
 mod lines;
 #[cfg(test)]
 mod tests;

@@ -1,6 +1,7 @@
 pub mod OutsideLaws
 pub mod OfflineLaws
 pub mod SimulateLaws
+pub mod SimulateWords
 pub mod PieceLaws
 pub mod GenerateLaws
 pub mod GenerateWords

@@ -1,11 +1,19 @@
 -- What `generate` writes and says.
-use Rattle.std.specs.Prelude.{◌≡◌, ◌≤◌, ◌⊎◌, ℕ, List, [], codes, if◌then◌else◌, ◌==◌, ⊤}
+use Rattle.std.specs.Prelude.{◌≡◌, ◌≤◌, ◌⊎◌, ℕ, List, [], ◌∷◌, codes, if◌then◌else◌, ◌==◌, ⊤, IsTrue}
+use Rattle.std.specs.List.{list_any}
+use Rattle.sk_base.specs.Statuses.{status_number}
 use Rattle.sk_script.specs.Generated.{generated}
+use Rattle.sk_script.specs.Scenarios.{ScenarioValue}
 use Rattle.sk_script_text.specs.Written.{canonical}
 use Rattle.sk_tools.specs.Found.{line}
 use Rattle.sk_tools.specs.declared.check.status.CheckStatus.{CheckStatus}
 use Rattle.sk_tools.specs.declared.check.status.CheckStatus.TheVariants.{Done, BadFile, ReadFault, WriteFault, OutOfMemory}
+use Rattle.sk_tools.specs.Running.{LeavesRan}
+use Rattle.sk_tools.specs.Seen.{SinkSeen}
+use Rattle.sk_tools.specs.Simulate.{exit_of}
 use Rattle.sk_tools.specs.declared.generate.GeneratePlan.{GeneratePlan}
+use Rattle.sk_tools.specs.declared.simulate.running.RunText.TheVariants.{Totals}
+use Rattle.sk_tools.specs.declared.simulate.status.SimulateStatus.{SimulateStatus}
 
 -- 2 to 32 participants, and 1 to 2,000 steps
 pub record IsPlan (plan : GeneratePlan) : Type 0 where
@@ -41,3 +49,13 @@ written_by answer = if answer == 4 then line (codes "silkit: write fault") else 
 -- with one of these numbers
 abbrev pub IsGenerateStatus : ℕ → Type 0
 IsGenerateStatus answer = (answer ≡ 0) ⊎ ((answer ≡ 4) ⊎ (answer ≡ 5))
+
+-- ## The scenario is run
+
+-- with one of these numbers
+abbrev pub IsRunCallStatus : ℕ → Type 0
+IsRunCallStatus answer = IsTrue (list_any (λ status. status == answer) (0 ∷ 4 ∷ 5 ∷ 6 ∷ 12 ∷ []))
+
+-- a way to end has this number, and this is what the run leaves: of its report the last line
+abbrev pub RanBy : ℕ → ScenarioValue → SinkSeen → SinkSeen → Type 0
+RanBy answer S out err = (ended : SimulateStatus) × (answer ≡ status_number (exit_of ended)) × LeavesRan Totals S ended out err

@@ -11,5 +11,5 @@ pub mod Seen
 pub mod PipeCall
 pub mod OfflineCall
 pub mod Pieces
-pub mod Runnable
+pub mod Running
 pub mod Simulate

@@ -2,18 +2,18 @@
 use Rattle.std.specs.Prelude.{◌≡◌, ◌≢◌, ◌⊎◌, ◌++◌, ℕ, true, Some, None, List}
 use Rattle.sk_base.specs.Talk.{Rose}
 use Rattle.sk_config.specs.Reading.{reading}
+use Rattle.sk_script.specs.Reading as scenario
 use Rattle.sk_script.specs.Generated.{generated}
 use Rattle.sk_script_text.specs.Written.{canonical}
 use Rattle.sk_tools.specs.Usage.{IsUsage}
 use Rattle.sk_tools.specs.Outside.{HasNoFault}
 use Rattle.sk_tools.specs.Found.{found_in, IsJudged, IsOutput}
 use Rattle.sk_tools.specs.Check.{IsCheckStatus, checked_text, said_by}
-use Rattle.sk_tools.specs.Generate.{IsGenerateStatus, written_by}
-use Rattle.sk_tools.specs.Jobs.{Job, Check, Simulate, Generate, offline_job}
-use Rattle.sk_tools.specs.Simulate.{IsSimulateStatus, LeavesBy}
-use Rattle.sk_tools.specs.Runnable.{runnable}
+use Rattle.sk_tools.specs.Generate.{IsGenerateStatus, IsRunCallStatus, written_by, RanBy}
+use Rattle.sk_tools.specs.Jobs.{Job, Check, Simulate, Generate, Run, offline_job}
+use Rattle.sk_tools.specs.Simulate.{IsSimulateStatus, LeavesBy, text_asked}
 use Rattle.sk_tools.specs.Seen.{FilesSeen, SinkSeen}
-use Rattle.sk_tools.specs.Words.{ScenarioPlan}
+use Rattle.sk_tools.specs.Words.{SimulationPlan, ScenarioPlan}
 
 -- the count of the files' faults rose with status 3, that of the output's with status 4, and with no other
 pub record IsCounted (files : FilesSeen) (out : SinkSeen) (answer : ℕ) : Type 0 where
@@ -34,12 +34,13 @@ pub record IsCheckCall (file : List ℕ) (files : FilesSeen) (out err : SinkSeen
   pub said : files.tells ≡ true → err.tells ≡ true → HasNoFault err.faults err.faults_now → answer ≢ 5 →
       err.written_now ≡ err.written ++ said_by file (found_in reading (files.content file)) answer
 
--- `simulate FILE`, by the files, the output, standard error and the answer
-pub record IsSimulateCall (file : List ℕ) (files : FilesSeen) (out err : SinkSeen) (answer : ℕ) : Type 0 where
+-- `simulate FILE [--report]`, by the files, the output, standard error and the answer
+pub record IsSimulateCall (plan : SimulationPlan) (files : FilesSeen) (out err : SinkSeen) (answer : ℕ) : Type 0 where
   pub known : IsSimulateStatus answer
   pub counted : IsCounted files out answer
-  -- what the file holds is judged by the status: a scenario that can be run, or not; and what is left of the run of one
-  pub leaves : files.tells ≡ true → LeavesBy answer file (found_in runnable (files.content file)) out err
+  -- what the file holds is judged by the status: a scenario, or not; and what is left of the run of one
+  pub leaves : files.tells ≡ true →
+      LeavesBy (text_asked plan.report) answer plan.file (found_in scenario.reading (files.content plan.file)) out err
 
 -- `generate NUMBER PARTICIPANTS STEPS`, by the files, the output, standard error and the answer: the text of the scenario that is
 -- made so, and nothing of files
@@ -49,11 +50,18 @@ pub record IsGenerateCall (plan : ScenarioPlan) (files : FilesSeen) (out err : S
   pub output : out.tells ≡ true → IsOutput (canonical (generated plan.number plan.participants plan.steps)) answer out.written out.written_now
   pub said : err.tells ≡ true → HasNoFault err.faults err.faults_now → answer ≢ 5 → err.written_now ≡ err.written ++ written_by answer
 
+-- `generate NUMBER PARTICIPANTS STEPS --run`, by the same: the last line of the report of the scenario that is made so
+pub record IsRunCall (plan : ScenarioPlan) (files : FilesSeen) (out err : SinkSeen) (answer : ℕ) : Type 0 where
+  pub known : IsRunCallStatus answer
+  pub counted : IsCounted files out answer
+  pub leaves : RanBy answer (generated plan.number plan.participants plan.steps) out err
+
 -- what is done of a job: a record for each
 abbrev pub Does : Job → FilesSeen → SinkSeen → SinkSeen → ℕ → Type 0
 Does (Check file) files out err answer = IsCheckCall file files out err answer
-Does (Simulate file) files out err answer = IsSimulateCall file files out err answer
+Does (Simulate plan) files out err answer = IsSimulateCall plan files out err answer
 Does (Generate plan) files out err answer = IsGenerateCall plan files out err answer
+Does (Run plan) files out err answer = IsRunCall plan files out err answer
 
 -- words without a reading: nothing is read, and nothing is written
 pub record IsRefusedCall (files : FilesSeen) (out : SinkSeen) (answer : ℕ) : Type 0 where

@@ -8,7 +8,7 @@ ghost use Rattle.sk_tools.specs.OfflineCall.{IsOfflineCall};
 mod tests;
 
 use crate::check::{check, out_of_memory};
-use crate::generate::generate;
+use crate::generate::write_or_run;
 use crate::outside::USAGE_LINE;
 use crate::outside::writing::say;
 use crate::simulate::simulate;
@@ -19,13 +19,13 @@ use crate::words::{Refused, is_command};
 use sk_base::{ExitStatus, Files, Sink};
 use std::alloc::Global;
 
-/// The commands on files: `check FILE`, `simulate FILE` and `generate NUMBER PARTICIPANTS STEPS`. Files
+/// The commands on files: `check FILE`, `simulate FILE [--report]` and `generate NUMBER PARTICIPANTS STEPS [--run]`. Files
 /// are read, the text is written to `out`, and what there is to say of the run to `err`; a fault of
 /// `err` changes nothing. It makes finitely many calls of the outside, and returns if they do.
 ///
 /// - 0: the file holds a configuration, and its canonical text and a line end were written; or a
-///   scenario, all participants finished, and their journals were written; or the generated scenario
-///   was written.
+///   scenario, all participants finished, and their journals or their report were written; or the
+///   generated scenario was written, or run and the last line of its report written.
 /// - 1: the file is absent, has more than 16,777,216 bytes, or holds no configuration or scenario.
 /// - 2: the words have no reading, or are those of another call.
 /// - 3: the file couldn't be read.
@@ -60,14 +60,14 @@ pub fn silkit_offline<F: Files, O: Sink, E: Sink>(
 {
     if is_command(words, "simulate") {
         match read_simulate(alloc, words) {
-            Ok(file) => simulate(alloc, file, files, out, err)
+            Ok(plan) => simulate(alloc, plan, files, out, err)
                 .exit_status()
                 .number(),
             Err(refused) => refuse_words(refused, err).number(),
         }
     } else if is_command(words, "generate") {
         match read_generate(alloc, words) {
-            Ok(plan) => generate(alloc, plan, out, err).exit_status().number(),
+            Ok(plan) => write_or_run(alloc, plan, out, err),
             Err(refused) => refuse_words(refused, err).number(),
         }
     } else {

@@ -65,6 +65,14 @@ pub fn needed<'a>(alloc: Global, id: &'a str) -> Arg<'a>
     Arg::new(alloc, id).required(true).action(ArgAction::Set)
 }
 
+/// A word that may be given: two hyphens and its name.
+pub fn flag<'a>(alloc: Global, id: &'a str) -> Arg<'a>
+    ensures rule { rule_of result ≡ words_of.flag id.entry.now }
+    ensures local { result.global ≡ false }
+{
+    Arg::new(alloc, id).long(id).action(ArgAction::SetTrue)
+}
+
 /// What a simple command finds in the words.
 pub fn parse<'a>(
     alloc: Global,
@@ -95,6 +103,17 @@ pub fn value<'a>(matches: &ArgMatches<'a>, id: &str) -> Option<&'a str>
     ensures { option_map (λ text. text.now) result ≡ value_of (rows_of (found_of matches.now)) id.now }
 {
     matches.get_str(id)
+}
+
+/// Whether a word that may be given is given.
+#[tactic(auto, unfolding(crate::specs::Words::is_set))]
+pub fn is_set(matches: &ArgMatches<'_>, id: &str) -> bool
+    ensures { result ≡ words_of.is_set (rows_of (found_of matches.now)) id.now }
+{
+    match value(matches, id) {
+        Some(text) => text == "true",
+        None => false,
+    }
 }
 
 /// One or more decimal digits, of a number from low to high.

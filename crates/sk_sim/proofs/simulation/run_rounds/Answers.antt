@@ -1,7 +1,8 @@
 use Rattle.std.proofs.Common.{true, false, refl, ◌∙◌, ap}
 use Rattle.sk_script.specs.Scenarios.{names_of}
 use Rattle.sk_sim.specs.Views.{views}
-use Rattle.sk_sim.proofs.Simulating.{idle_by, simulation, no_stall}
+use Rattle.sk_sim.proofs.Apps.{played_by}
+use Rattle.sk_sim.proofs.Simulating.{simulation, no_stall}
 use Rattle.sk_sim.proofs.simulation.run_rounds.Goals as goal
 
 pub returns-in_err-names-clause-stalled : goal.returns-in_err-names-clause-stalled
@@ -19,11 +20,11 @@ returns-in_err-journals-clause-stalled c = no_stall c.args.scenario.now c.from_r
 pub returns-then-finished-clause-finished : goal.returns-then-finished-clause-finished
 returns-then-finished-clause-finished c =
     let s = c.in_ok-seats-2 in
-    simulation c.args.scenario.now s.finished (views c.in_ok-seats.field-0.items) (views s.seats.items) c.in_ok-seats.ensures.of s.ensures.run (idle_by (λ app. refl) s.seats.items)
+    simulation c.args.scenario.now s.finished (views c.in_ok-seats.field-0.items) (views s.seats.items) c.in_ok-seats.ensures.of s.ensures.run c.participants.ensures.rules (played_by (λ origin. origin) (λ app. refl) (λ app. refl) s.seats.items)
     true c.if-finished.true _ _ (c.in_ok-names.ensures ∙ ap names_of c.participants.ensures.value) c.in_ok-journals.ensures
 
 pub returns-else-finished-clause-stalled : goal.returns-else-finished-clause-stalled
 returns-else-finished-clause-stalled c =
     let s = c.in_ok-seats-2 in
-    simulation c.args.scenario.now s.finished (views c.in_ok-seats.field-0.items) (views s.seats.items) c.in_ok-seats.ensures.of s.ensures.run (idle_by (λ app. refl) s.seats.items)
+    simulation c.args.scenario.now s.finished (views c.in_ok-seats.field-0.items) (views s.seats.items) c.in_ok-seats.ensures.of s.ensures.run c.participants.ensures.rules (played_by (λ origin. origin) (λ app. refl) (λ app. refl) s.seats.items)
     false c.if-finished.false _ _ (c.in_ok-names.ensures ∙ ap names_of c.participants.ensures.value) c.in_ok-journals.ensures

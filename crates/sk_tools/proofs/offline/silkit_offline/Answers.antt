@@ -1,6 +1,5 @@
 use Rattle.std.proofs.Common.{◌∙◌, refl, sym, map, string_bytes}
 use Rattle.sk_tools.proofs.CallLaws.{check_job, simulate_job, generate_job, no_check_job, no_simulate_job, no_generate_job, offline_ran, offline_still}
-use Rattle.sk_tools.proofs.GenerateLaws.{generate_ran}
 use Rattle.sk_tools.proofs.OfflineLaws.{check_ran}
 use Rattle.sk_tools.proofs.SimulateLaws.{simulate_ran}
 use Rattle.sk_tools.proofs.offline.silkit_offline.Goals as goal
@@ -33,11 +32,8 @@ returns-in-Err-read_check g c =
 
 pub returns-in-Ok-read_generate : goal.returns-in-Ok-read_generate
 returns-in-Ok-read_generate g c =
-    let done = c.generate.ensures in
-    let read = c.in-Ok-read_generate.ensures in
-    rw (c.number-in-Ok-read_generate.ensures, c.exit_status-in-Ok-read_generate.ensures)
-    (offline_ran _ _ _ _ _ _ (generate_job (map string_bytes c.args.words.now) (sym c.is_command-else-is_command.ensures ∙ c.if-is_command-2.true) read.reads)
-    (generate_ran _ _ _ _ c.generate.result refl done.ends done.writes done.written done.said))
+    offline_ran _ _ _ _ _ _ (generate_job (map string_bytes c.args.words.now) (sym c.is_command-else-is_command.ensures ∙ c.if-is_command-2.true) c.in-Ok-read_generate.ensures.reads)
+    (c.write_or_run.ensures _ refl)
 
 pub returns-in-Err-read_generate : goal.returns-in-Err-read_generate
 returns-in-Err-read_generate g c =

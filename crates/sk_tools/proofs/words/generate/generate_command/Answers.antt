@@ -15,5 +15,7 @@ returns c =
     ∙ ap₂ with_rule (named ∙ behind ∙ about ∙ c.new.ensures.app) (ap rule_of c.help.ensures ∙ c.needed.ensures.rule) in
     let two = c.in_ok-arg-2.ensures.shape (ap (λ arg. arg.global) c.help-2.ensures ∙ c.needed-2.ensures.local)
     ∙ ap₂ with_rule one (ap rule_of c.help-2.ensures ∙ c.needed-2.ensures.rule) in
-    c.in_ok-command.ensures.shape (ap (λ arg. arg.global) c.help-3.ensures ∙ c.needed-3.ensures.local)
-    ∙ ap₂ with_rule two (ap rule_of c.help-3.ensures ∙ c.needed-3.ensures.rule)
+    let three = c.in_ok-arg-3.ensures.shape (ap (λ arg. arg.global) c.help-3.ensures ∙ c.needed-3.ensures.local)
+    ∙ ap₂ with_rule two (ap rule_of c.help-3.ensures ∙ c.needed-3.ensures.rule) in
+    c.in_ok-command.ensures.shape (ap (λ arg. arg.global) c.help-4.ensures ∙ c.flag.ensures.local)
+    ∙ ap₂ with_rule three (ap rule_of c.help-4.ensures ∙ c.flag.ensures.rule)

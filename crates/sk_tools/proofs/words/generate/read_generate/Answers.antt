@@ -26,4 +26,4 @@ pub returns-clause-reads : goal.returns-clause-reads
 returns-clause-reads c =
     let read = read_in _ _ _ (sym c.is_command.ensures ∙ c.if-not-is_command.false) c.in_ok-generate_command.ensures c.in_ok-matches.ensures.taken c.in_ok-matches.ensures.rows in
     let given = all_given _ _ _ _ (rw c.in-Some.is at c.value.ensures) (rw c.in-Some-value.is at c.value-2.ensures) (rw c.in-Some-value-2.is at c.value-3.ensures) in
-    rw (read, given) c.read_scenario_words.ensures.reads
+    rw (read, given, ← c.is_set-run.ensures) c.read_scenario_words.ensures.reads

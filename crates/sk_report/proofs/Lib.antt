@@ -1,0 +1,4 @@
+pub mod Getting
+pub mod Taking
+pub mod Walking
+pub mod Telling
