@@ -19,8 +19,8 @@ fn next(node: &mut Node, held: &mut Option<Message>, number: u32) -> Option<Mess
     ensures some { IfSome result (λ message. (waits_of node.old.kept held.old number ≡ message ∷ waits_of node.new.kept held.new number) × (held.new ≡ None)) }
     ensures none { IfNone result ((waits_of node.old.kept held.old number ≡ []) × (waits_of node.new.kept held.new number ≡ []) × (held.new ≡ None)) }
 {
-    match held.take() {
-        Some(message) => Some(message),
+    match held {
+        Some(_) => held.take(),
         None => match node.take_out(number) {
             Some(message) => Some(message),
             None => None,
